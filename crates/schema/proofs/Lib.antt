@@ -1,0 +1,12 @@
+pub mod Rules
+pub mod Divide
+pub mod Scaled
+pub mod Counting
+pub mod Cuts
+pub mod Buckets
+pub mod Search
+pub mod Made
+pub mod Reading
+pub mod Ends
+pub mod Laws
+pub mod Fitting

@@ -1,0 +1,4 @@
+pub mod Pairs
+pub mod Faults
+pub mod Stores
+pub mod Laws
