@@ -11,7 +11,8 @@ use Rattle.std.proofs.shelf.Lists.{length-take-le, take-more, take-more-set, dr
 use Rattle.std.proofs.shelf.Tests.{cases-lt}
 use Rattle.index.specs.Index.{halved}
 use Rattle.store.specs.Pairs.{Pairs, total, halved-pairs}
-use Rattle.store.proofs.Parts.{joined-last, joined-last-set, joined-last-push, halved-taken, total-append}
+use Rattle.store.specs.Pairs.{joined-last}
+use Rattle.store.proofs.Parts.{joined-last-set, joined-last-push, halved-taken, total-append}
 
 module _ (t : Pairs) (n : ℕ) (a d : ℤ × ℕ) (fits : n ≤ length t) where
   size : length (take n t) ≡ n

@@ -2,8 +2,7 @@
 ghost use mathlib.Core.Path.{_≡_};
 ghost use Prim.Native.Nat.{_+_, _^_, _<_, _≤_};
 ghost use lib.ListN.{length, take, drop};
-ghost use Rattle.store.specs.Pairs.{total, halved-pairs};
-ghost use Rattle.store.proofs.Parts.{joined-last};
+ghost use Rattle.store.specs.Pairs.{total, halved-pairs, joined-last};
 use index::coarser_index;
 
 // Halves the indices of the first `size` pairs, joins counts that meet, and answers how many pairs are left.

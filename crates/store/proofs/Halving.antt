@@ -11,16 +11,12 @@ use lib.ListN.{length}
 use lib.Signed.{leZ, leZ-yes, _≤ℤ_}
 use Rattle.std.proofs.shelf.Signed.{ints}
 use Rattle.std.proofs.shelf.Tests.{cond-both, or-from, or-left, or-right}
-use Rattle.index.specs.Index.{in-range, halved, Halves}
+use Rattle.index.specs.Index.{in-range, halved}
+use Rattle.index.proofs.Halving.{halves}
 use Rattle.store.specs.Pairs.{Pairs, Means, same, rising, counted, total, listed, count-at, joined, halved-pairs}
 use Rattle.store.specs.Laws.{Halving}
 use Rattle.store.proofs.Order.{same-from, same-true, same-false, same-not, cases-index, or-same, or-assoc}
 use Rattle.store.proofs.Bounds.{Above, From, and-T, T-and, above-apart, above-less, from-above, rising-tail, rising-above, rising-more, counted-first, counted-tail, counted-more, uncounted-above}
-
--- an index and its half, over twice the half
-pub halves : (i : ℤ) → Halves i (halved i)
-halves (pos n) = grind (arith, ints)
-halves (negsuc n) = grind (arith, ints)
 
 pub halved-order : (i j : ℤ) → i ≤ℤ j → halved i ≤ℤ halved j
 halved-order i j h = let a = halves i in let b = halves j in omega (arith, ints)

@@ -13,7 +13,7 @@ use Rattle.std.proofs.shelf.Signed.{ints}
 use Rattle.std.proofs.shelf.Tests.{or-from, or-left, or-right, cond-true, cond-false}
 use Rattle.std.specs.declared.option.Option.the-variants.{Some, None}
 use Rattle.index.specs.Index.{halved}
-use Rattle.store.specs.Pairs.{Pairs, same, leads, rising, counted, total, listed, pair-at, raised, lowest, without-lowest, joined, halved-pairs}
+use Rattle.store.specs.Pairs.{Pairs, same, leads, rising, counted, total, listed, pair-at, raised, lowest, without-lowest, joined, halved-pairs, joined-last}
 use Rattle.store.proofs.Order.{same-itself, same-true, same-from, same-not, above-same, or-assoc}
 use Rattle.store.proofs.Bounds.{Above, From, Below, above-from, above-from-leads, unlisted-above, rising-tail, rising-above, rising-more, counted-first, counted-tail, counted-more}
 use Rattle.store.proofs.Raising.{raised-here, raised-after, raised-between}
@@ -163,12 +163,6 @@ unlisted-between i ps k r b l =
     ap (listed i) (sym (take-append-drop k ps)) ∙
     listed-append i (take k ps) (drop k ps) ∙
     or-from (listed i (take k ps)) (listed i (drop k ps)) (unlisted-below i (take k ps) b) (unlisted-above i (drop k ps) (above-from-leads i (drop k ps) l s))
-
--- a put last; its count joins that of the last pair where the two have one index
-abbrev pub joined-last : Pairs → ℤ × ℕ → Pairs
-joined-last [] a = a ∷ []
-joined-last (q ∷ []) a = joined q (a ∷ [])
-joined-last (q ∷ r ∷ qs) a = q ∷ joined-last (r ∷ qs) a
 
 -- joining in front and joining at the end do not disturb one another
 module _ (p q a : ℤ × ℕ) where

@@ -92,3 +92,9 @@ joined p (q ∷ qs) = cond (same (p .0) (q .0)) ((p .0, p .1 + q .1) ∷ qs) (p 
 abbrev pub halved-pairs : Pairs → Pairs
 halved-pairs [] = []
 halved-pairs (p ∷ ps) = joined (halved (p .0), p .1) (halved-pairs ps)
+
+-- a put last; its count joins that of the last pair where the two have one index
+abbrev pub joined-last : Pairs → ℤ × ℕ → Pairs
+joined-last [] a = a ∷ []
+joined-last (q ∷ []) a = joined q (a ∷ [])
+joined-last (q ∷ r ∷ qs) a = q ∷ joined-last (r ∷ qs) a

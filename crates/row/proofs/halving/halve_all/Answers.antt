@@ -10,7 +10,7 @@ use Rattle.std.proofs.shelf.Signed.{toZ-ofZ}
 use Rattle.index.specs.Index.{halved}
 use Rattle.store.specs.Pairs.{total}
 use Rattle.store.proofs.Halving.{total-halved}
-use Rattle.store.proofs.Parts.{joined-last}
+use Rattle.store.specs.Pairs.{joined-last}
 use Rattle.row.proofs.Joins.{drop-further, drop-first, total-more, total-front, halved-step}
 use Rattle.row.proofs.halving.halve_all.Needs as need
 
