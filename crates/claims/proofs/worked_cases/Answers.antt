@@ -19,4 +19,4 @@ indices = record {
 }
 
 pub returns : need.returns
-returns c = record { indices = indices }
+returns c = record { indices = indices; spans = record { of-spans = refl; of-deltas = refl; back = refl } }
