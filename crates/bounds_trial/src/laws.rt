@@ -13,7 +13,8 @@ use schema::positive_upper_bound;
 
 // Whether the number is above the bound before, and at most the index's own.
 fn in_bucket(schema: Schema, value: f64, index: i32) -> bool {
-    positive_upper_bound(schema, index.wrapping_sub(1)) < value && value <= positive_upper_bound(schema, index)
+    positive_upper_bound(schema, index.wrapping_sub(1)) < value
+        && value <= positive_upper_bound(schema, index)
 }
 
 // Whether fraction and exponent are those of the number, which is above zero.
@@ -34,11 +35,21 @@ pub fn number(checks: &mut Checks, schema: Schema, value: f64) {
         return;
     };
     checks.see(Law::Bucket, value, found, in_bucket(schema, value, index));
-    checks.see(Law::Sign, value, found, bucket_index(schema, -value) == found);
+    checks.see(
+        Law::Sign,
+        value,
+        found,
+        bucket_index(schema, -value) == found,
+    );
     checks.see(Law::Parts, value, found, well_parted(value));
     if let Some(coarser) = schema.coarser() {
         let half = Some(coarser_index(index));
-        checks.see(Law::Halving, value, found, bucket_index(coarser, value) == half);
+        checks.see(
+            Law::Halving,
+            value,
+            found,
+            bucket_index(coarser, value) == half,
+        );
     }
 }
 
@@ -49,12 +60,20 @@ fn power(schema: Schema, index: i32) -> Option<i32> {
         return Some(index.wrapping_mul(1 << value.unsigned_abs().min(4)));
     }
     let places = 1 << value.unsigned_abs().min(8);
-    if index % places == 0 { Some(index / places) } else { None }
+    if index % places == 0 {
+        Some(index / places)
+    } else {
+        None
+    }
 }
 
 // The bound that is 2^exponent: the largest double where 2^1024 is meant.
 fn power_bound(exponent: i32) -> f64 {
-    if exponent == 1024 { f64::MAX } else { power_of_two(exponent) }
+    if exponent == 1024 {
+        f64::MAX
+    } else {
+        power_of_two(exponent)
+    }
 }
 
 // Checks the bound of an index alone.
@@ -65,7 +84,12 @@ fn alone(checks: &mut Checks, schema: Schema, index: i32, bound: f64) {
     }
     if index % 2 == 0 {
         if let Some(coarser) = schema.coarser() {
-            checks.see(Law::Shared, bound, at, positive_upper_bound(coarser, index / 2) == bound);
+            checks.see(
+                Law::Shared,
+                bound,
+                at,
+                positive_upper_bound(coarser, index / 2) == bound,
+            );
         }
     }
 }
@@ -101,11 +125,26 @@ pub fn boundary(checks: &mut Checks, schema: Schema, index: i32) {
 pub fn ends(checks: &mut Checks, schema: Schema) {
     let (low, high) = schema.index_range();
     let least = power_of_two(-1074);
-    checks.see(Law::Ends, least, Some(low), bucket_index(schema, least) == Some(low));
+    checks.see(
+        Law::Ends,
+        least,
+        Some(low),
+        bucket_index(schema, least) == Some(low),
+    );
     let largest = Some(high.wrapping_sub(1));
-    checks.see(Law::Ends, f64::MAX, largest, bucket_index(schema, f64::MAX) == largest);
+    checks.see(
+        Law::Ends,
+        f64::MAX,
+        largest,
+        bucket_index(schema, f64::MAX) == largest,
+    );
     for infinity in [f64::INFINITY, -f64::INFINITY] {
-        checks.see(Law::Ends, infinity, Some(high), bucket_index(schema, infinity) == Some(high));
+        checks.see(
+            Law::Ends,
+            infinity,
+            Some(high),
+            bucket_index(schema, infinity) == Some(high),
+        );
     }
     checks.see(Law::Ends, least, Some(low), in_index_range(low));
     checks.see(Law::Ends, f64::INFINITY, Some(high), in_index_range(high));

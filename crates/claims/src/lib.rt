@@ -6,5 +6,4 @@ ghost use Rattle.span.specs.Laws.{Worked};
 pub fn worked_cases()
     ensures indices { λ _. ⌜ Indices ⌝ }
     ensures spans { λ _. ⌜ Worked ⌝ }
-{
-}
+{}

@@ -69,10 +69,12 @@ kept-largest n m j hm h = ⊎-elim short whole (cases-lt j (size n - 53))
       where
         back : (a b : ℕ) → b ≤ a → a ≡ a - b + b
         back a b l = omega arith
+
     whole : size n - 53 ≤ j → m * 2 ^ j ≤ kept n
     whole l =
         let k = size n - 53 in
         le-trans (le-of-eq (split k l)) (mul-le-mul-right (2 ^ k) (le-div-iff-mul-le (pow-pos k) .1 (le-trans (le-of-eq (sym (split k l))) h)))
+
     short : j < size n - 53 → m * 2 ^ j ≤ kept n
     short l = go (size n) refl
       where

@@ -74,6 +74,7 @@ fraction-same l m j q k hm hq lm lq e =
   where
     sizes : size q + k ≡ size m + j
     sizes = sym (size-shift q k hq) ∙ ap size e ∙ size-shift m j hm
+
     spread : (a i : ℕ) → size a ≤ l → a * 2 ^ (l - size a) * 2 ^ (size a + i) ≡ a * 2 ^ i * 2 ^ l
     spread a i h =
         mul-assoc a (2 ^ (l - size a)) (2 ^ (size a + i))
@@ -118,7 +119,7 @@ fractional s m e f =
       fitting = subst (λ (d : ℕ). T (fits binary64 (fin false (suc m) (Negative d)))) (sym (t .1)) (fraction-fits s m e (t .0) (t .1) f);
       holds =
           subst (λ (d : ℕ). Holds (fin false (suc m) (Negative d)) (suc m * 2 ^ (1074 - d))) (sym (t .1))
-          (refl, holds-fraction 1074 (suc m) (t .0) (le-trans (le-of-eq (sym (t .1))) (le-trans (size-le (suc m) 53 (fits-digits binary64 s (suc m) e f)) (lit≤ tt))))
+          (refl, holds-fraction 1074 (suc m) (t .0) (le-trans (le-of-eq (sym (t .1))) (le-trans (size-le (suc m) 53 (fits-digits binary64 s (suc m) e f)) (lit≤ tt))));
     }
 
 pub widen : (q : ℕ) → q < 2 ^ 53 → full q * 2 ^ 1021 ≡ q * 2 ^ (1074 - size q)
@@ -136,6 +137,7 @@ fraction-bits s m e q k f p h w =
   where
     few : (n : ℕ) → n < 2 ^ 53 → size n ≤ 1074
     few n h = le-trans (size-le n 53 h) (lit≤ tt)
+
     same : full q * 2 ^ 1021 ≡ suc m * 2 ^ (1074 - size (suc m))
     same =
         widen q h
@@ -169,6 +171,7 @@ unlift-low l n = go (ltb n l) refl
   where
     fewer : (a b : ℕ) → a < b → suc (b - suc a) ≤ b
     fewer a b h = omega arith
+
     go : (b : Bool) → ltb n l ≡ b → down (cond b (negsuc (l - suc n)) (pos (n - l))) ≤ 2 ^ l
     go true e = pow-mono (fewer n l (ltb-true n l e))
     go false e = pow-pos l
@@ -184,6 +187,7 @@ made-up l m j d h =
   where
     x : ℤ
     x = subℕ (d + j) l
+
     places : (l d j : ℕ) → d ≤ l → j + l ≡ l - d + (d + j)
     places l d j h = omega arith
 
@@ -213,15 +217,18 @@ unfolding fits isNan units
 splits-fin s m e f = record {
   at-least-half = subst T (sym (le-units half (fraction (fin s (suc m) e)) (tt, tt) plain ∙ le-leb _ _ (le-trans (mul-le-mul-right (2 ^ 1021) (full-ge (suc m) (zero-lt-suc m) digits)) (le-of-eq (sym shifted))))) tt;
   below-one = subst T (sym (lt-units (fraction (fin s (suc m) e)) one plain (tt, tt) ∙ lt-ltb _ _ (lt-of-le-of-lt (le-of-eq shifted) (mul-lt-mul-of-pos-right (full-lt (suc m) digits) (pow-pos 1021))))) tt;
-  exact = splits-exact s m e f
+  exact = splits-exact s m e f;
 }
   where
     digits : suc m < 2 ^ 53
     digits = fits-digits binary64 s (suc m) e f
+
     g : Fractional m e
     g = fractional s m e f
+
     plain : Number (fraction (fin s (suc m) e))
     plain = number (fraction (fin s (suc m) e)) _ (g .fitting) (g .holds)
+
     shifted : units (fraction (fin s (suc m) e)) ≡ full (suc m) * 2 ^ 1021
     shifted = holds-units (fraction (fin s (suc m) e)) _ (g .holds) ∙ sym (widen (suc m) digits)
 
@@ -285,13 +292,15 @@ normal-bits n l h = record {
   plain = holds-magnitude f (n * 2 ^ 1021) holds;
   whole = holds-units f (n * 2 ^ 1021) holds;
   low = l;
-  high = h
+  high = h;
 }
   where
     f : Float
     f = ofBits binary64 (1021 * 2 ^ 52 + n)
+
     few : n * 2 ^ 1021 < 2 ^ 2098
     few = lt-of-lt-of-le (mul-lt-mul-of-pos-right h (pow-pos 1021)) (le-trans (le-of-eq (sym (pow-add 2 53 1021))) (pow-mono {i = 1074} {j = 2098} (lit≤ tt)))
+
     holds : Holds f (n * 2 ^ 1021)
     holds =
         subst (λ (a : ℕ). Holds f a) (le-antisymm (kept-le (n * 2 ^ 1021)) (kept-largest (n * 2 ^ 1021) n 1021 h (le-refl (n * 2 ^ 1021))))
@@ -319,14 +328,16 @@ split-normal (fin s (suc m) e) f h = record {
     plain = refl;
     whole = shifted;
     low = full-ge (suc m) (zero-lt-suc m) digits;
-    high = full-lt (suc m) digits
+    high = full-lt (suc m) digits;
   };
-  exact = splits-exact s m e f ∙ ap (λ (u : ℕ). u * up (exponent (fin s (suc m) e))) shifted
+  exact = splits-exact s m e f ∙ ap (λ (u : ℕ). u * up (exponent (fin s (suc m) e))) shifted;
 }
   where
     digits : suc m < 2 ^ 53
     digits = fits-digits binary64 s (suc m) e f
+
     g : Fractional m e
     g = fractional s m e f
+
     shifted : units (fraction (fin s (suc m) e)) ≡ full (suc m) * 2 ^ 1021
     shifted = holds-units (fraction (fin s (suc m) e)) _ (g .holds) ∙ sym (widen (suc m) digits)

@@ -66,13 +66,15 @@ pub record Kept (n : ℕ) : Type 0 where
 pub pattern-kept : (n : ℕ) → n < 2 ^ 2098 → Kept n
 pattern-kept n h = record {
   holds = subst (λ (x : Float). Holds x (kept n)) (sym same) (odd-sign 53 false q k 1074);
-  fitting = ofBits-fits binary64 (pattern n)
+  fitting = ofBits-fits binary64 (pattern n);
 }
   where
     k : ℕ
     k = size n - 53
+
     q : ℕ
     q = n / 2 ^ k
+
     same : ofBits binary64 (pattern n) ≡ odd 53 false q k 1074
     same =
         ap (ofBits binary64) (sym (kept-pattern n))
@@ -130,6 +132,7 @@ largest-within n =
   where
     least : (a b : ℕ) → min a b ≤ a
     least a b = omega arith
+
     above : (C : ℕ) {m : ℕ} → C < m → C + 1 ≤ m
     above C h = omega arith
 
@@ -145,15 +148,17 @@ largest-reaches (inf s) n k h =
 largest-reaches (fin s m e) n k h =
     by-cases (λ x. units (fin s m e) ≤ units x) n
     (λ g.
-        le-trans (le-of-eq whole)
-        (le-trans (kept-largest (min n (2 ^ 2098 - 1)) m (lift 1074 e) (fits-digits binary64 s m e (k .0)) (le-trans (le-of-eq (sym whole)) (both (2 ^ 2098) (units-under s m e (k .0)) h)))
-        (le-of-eq (sym (holds-units (ofBits binary64 (pattern (min n (2 ^ 2098 - 1)))) _ (capped n .holds))))))
+    le-trans (le-of-eq whole)
+    (le-trans (kept-largest (min n (2 ^ 2098 - 1)) m (lift 1074 e) (fits-digits binary64 s m e (k .0)) (le-trans (le-of-eq (sym whole)) (both (2 ^ 2098) (units-under s m e (k .0)) h)))
+    (le-of-eq (sym (holds-units (ofBits binary64 (pattern (min n (2 ^ 2098 - 1)))) _ (capped n .holds))))))
     (λ g. le-trans (le-of-lt (units-under s m e (k .0))) (le-trans (more (2 ^ 2098)) (le-of-eq (sym (units-infinite false)))))
   where
     whole : units (fin s m e) ≡ m * 2 ^ lift 1074 e
     whole = units-lift s m e (fits-low binary64 s m e (k .0))
+
     both : (C : ℕ) {u v : ℕ} → u < C → u ≤ v → u ≤ min v (C - 1)
     both C h g = omega arith
+
     more : (C : ℕ) → C ≤ C + 1
     more C = omega arith
 

@@ -61,17 +61,21 @@ shape (fin s (suc m) e) f h = record {
   digits = kept-lt 53 n;
   leading = ⊎-elim inl (λ g. inr (le-div-iff-mul-le (pow-pos (z - 53)) .1 (le-trans (le-of-eq (sym (pow-add 2 52 (z - 53)))) (size-reaches n (52 + (z - 53)) (at-top z g))))) (eq-zero-or-pos (z - 53));
   small = short;
-  nonzero = factor (n / 2 ^ (z - 53)) (2 ^ (z - 53)) (lt-of-lt-of-le (mul-pos (zero-lt-suc m) (pow-pos (lift 1074 e))) (le-of-eq (sym (exact ∙ lifted))))
+  nonzero = factor (n / 2 ^ (z - 53)) (2 ^ (z - 53)) (lt-of-lt-of-le (mul-pos (zero-lt-suc m) (pow-pos (lift 1074 e))) (le-of-eq (sym (exact ∙ lifted))));
 }
   where
     n : ℕ
     n = units (fin s (suc m) e)
+
     z : ℕ
     z = size n
+
     lifted : n ≡ suc m * 2 ^ lift 1074 e
     lifted = units-lift s (suc m) e (fits-low binary64 s (suc m) e f)
+
     exact : n / 2 ^ (z - 53) * 2 ^ (z - 53) ≡ n
     exact = le-antisymm (kept-le n) (le-trans (le-of-eq lifted) (kept-largest n (suc m) (lift 1074 e) (fits-digits binary64 s (suc m) e f) (le-of-eq (sym lifted))))
+
     short : z - 53 ≤ 2045
     short = few z (size-le n 2098 (units-under s (suc m) e f))
 
@@ -88,11 +92,12 @@ taken-low v s h = record {
   whole = ap₂ (λ (a b : ℕ). a * 2 ^ b) same none ∙ s .whole;
   digits = lt-of-le-of-lt (le-of-eq same) (s .digits);
   small = omega arith;
-  nonzero = lt-of-lt-of-le (s .nonzero) (le-of-eq (sym same))
+  nonzero = lt-of-lt-of-le (s .nonzero) (le-of-eq (sym same));
 }
   where
     none : 0 ≡ s .k
     none = omega (arith, s .bits, s .leading)
+
     same : toBits binary64 v % 2 ^ 63 % 2 ^ 52 ≡ s .q
     same = omega (arith, s .bits, s .leading)
 
@@ -101,10 +106,11 @@ taken-high v s h = record {
   whole = ap₂ (λ (a b : ℕ). a * 2 ^ b) same field ∙ s .whole;
   digits = omega arith;
   small = lt-of-le-of-lt (le-of-eq field) (omega (arith, s .small));
-  nonzero = omega arith
+  nonzero = omega arith;
 }
   where
     same : toBits binary64 v % 2 ^ 63 % 2 ^ 52 + 2 ^ 52 ≡ s .q
     same = omega (arith, s .bits, s .leading, s .digits)
+
     field : toBits binary64 v % 2 ^ 63 / 2 ^ 52 - 1 ≡ s .k
     field = omega (arith, s .bits, s .leading, s .digits)

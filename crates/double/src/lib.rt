@@ -35,7 +35,10 @@ fn normalize(mantissa: u64) -> (f64, u32)
     ensures small { λ r. ⌜ r .1 < 54 ⌝ }
 {
     let digits = 64 - mantissa.leading_zeros();
-    (f64::from_bits((1021 << 52) + (mantissa << (53 - digits))), digits)
+    (
+        f64::from_bits((1021 << 52) + (mantissa << (53 - digits))),
+        digits,
+    )
 }
 
 // The magnitude of v as fraction × 2^exponent, exactly, the fraction at least 0.5 and below 1, subnormals included.

@@ -31,9 +31,10 @@ module _ (t : Pairs) (n : ℕ) (a d : ℤ × ℕ) (fits : n ≤ length t) where
   pub join-apart : n < length t → (0 < n → getD t (n - 1) d .0 ≡ a .0 → ⊥) → take (n + 1) (set t n a) ≡ joined-last (take n t) a
   join-apart room ne =
       take-more-set t n a room
-      ∙ elim (cases-lt 0 n)
-        [ inl h ↦ sym (joined-last-push (take n t) (n - 1) d a (let s = size in omega arith) (λ e. ne h (sym (ap (λ q. q .0) (last h)) ∙ e)))
-        | inr h ↦ let z : n ≡ 0 = omega arith in subst (λ m. take m t ++ a ∷ [] ≡ joined-last (take m t) a) (sym z) refl ]
+      ∙ elim (cases-lt 0 n) [
+        | inl h ↦ sym (joined-last-push (take n t) (n - 1) d a (let s = size in omega arith) (λ e. ne h (sym (ap (λ q. q .0) (last h)) ∙ e)))
+        | inr h ↦ let z : n ≡ 0 = omega arith in subst (λ m. take m t ++ a ∷ [] ≡ joined-last (take m t) a) (sym z) refl
+      ]
 
 -- tables that agree from some place on
 pub drop-further : (xs ys : Pairs) (j k : ℕ) → j ≤ k → drop j xs ≡ drop j ys → drop k xs ≡ drop k ys

@@ -36,11 +36,11 @@ module _ {X : Type 0} where
   opened-more xs ys n m d below fits room h =
       let size = length-take-le n xs fits in
       let here : getD ys m d ≡ getD (take n xs) m d =
-          sym (getD-take (n + 1) ys m d (omega arith))
-          ∙ ap (λ zs. getD zs m d) h
-          ∙ getD-inserted-below (take n xs) (m + 1) _ d m (omega arith) (omega arith) in
+      sym (getD-take (n + 1) ys m d (omega arith))
+      ∙ ap (λ zs. getD zs m d) h
+      ∙ getD-inserted-below (take n xs) (m + 1) _ d m (omega arith) (omega arith) in
       let kept : getD (set ys (m + 1) (getD ys m d)) m d ≡ getD ys m d =
-          getD-set-other ys (m + 1) m _ d (let ne : m ≢ m + 1 = λ e. omega arith in ne) in
+      getD-set-other ys (m + 1) m _ d (let ne : m ≢ m + 1 = λ e. omega arith in ne) in
       take-set-lt (n + 1) ys (m + 1) (getD ys m d) (omega arith)
       ∙ ap (λ zs. set zs (m + 1) (getD ys m d)) h
       ∙ set-inserted (take n xs) (m + 1) _ _ (omega arith)
@@ -65,11 +65,11 @@ module _ {X : Type 0} where
       let rest = length-drop 1 xs in
       let front = length-take-le i (drop 1 xs) (omega arith) in
       let next : getD ys (i + 1) d ≡ getD (drop 1 xs) i d =
-          ap (λ zs. getD zs (i + 1) d) e
-          ∙ getD-append-right (take i (drop 1 xs)) (drop i xs) i (i + 1) d front (omega arith)
-          ∙ getD-drop i xs (i + 1 - i) d
-          ∙ ap (λ k. getD xs k d) (let n : i + (i + 1 - i) ≡ 1 + i = omega arith in n)
-          ∙ sym (getD-drop 1 xs i d) in
+      ap (λ zs. getD zs (i + 1) d) e
+      ∙ getD-append-right (take i (drop 1 xs)) (drop i xs) i (i + 1) d front (omega arith)
+      ∙ getD-drop i xs (i + 1 - i) d
+      ∙ ap (λ k. getD xs k d) (let n : i + (i + 1 - i) ≡ 1 + i = omega arith in n)
+      ∙ sym (getD-drop 1 xs i d) in
       ap (λ zs. set zs i (getD ys (i + 1) d)) (e ∙ ap (λ zs. take i (drop 1 xs) ++ zs) (drop-more xs i d (omega arith)))
       ∙ set-at (take i (drop 1 xs)) (getD xs i d) (drop (i + 1) xs) (getD ys (i + 1) d) i front
       ∙ ap (λ x. take i (drop 1 xs) ++ x ∷ drop (i + 1) xs) next

@@ -31,8 +31,6 @@ listed-past i p ps h e =
     elim (or-cases (same i (p .0)) (listed i ps) e)
     [ inl s ↦ absurd (both-ways (same i (p .0)) (above-same i (p .0) h) s) | inr t ↦ t ]
 
-
-
 pub place-within : (i : ℤ) (ps : Pairs) → place i ps ≤ length ps
 place-within i [] = omega arith
 place-within i (p ∷ ps) =
@@ -89,7 +87,7 @@ place-before i (p ∷ ps) (suc k) d r h l =
     let ih = place-before i ps k d (rising-tail p ps r) (omega arith) l in
     by-ltZ (p .0) i
     (λ q. let e = place-past i p ps q in
-        record { upto = let u = ih .upto in omega arith; if-listed = λ t. let u = ih .if-listed (listed-past i p ps q t) in omega arith })
+    record { upto = let u = ih .upto in omega arith; if-listed = λ t. let u = ih .if-listed (listed-past i p ps q t) in omega arith })
     (λ q. let e = place-first i p ps q in record { upto = omega arith; if-listed = λ t. omega arith })
 
 -- what a search answers

@@ -41,9 +41,9 @@ index-at-place i [] d r e = absurd (both-ways false refl e)
 index-at-place i (p ∷ ps) d r e =
     let ih = index-at-place i ps d (rising-tail p ps r) in
     elim (cases-index i (p .0)) [
-      inl h ↦ absurd (both-ways (listed i (p ∷ ps)) (unlisted-above i (p ∷ ps) (h, above-less i (p .0) ps (omega (arith, ints)) (rising-above p ps r))) e)
-    | inr (inl q) ↦ ap (λ k. getD (p ∷ ps) k d .0) (place-first i p ps (omega (arith, ints))) ∙ sym q
-    | inr (inr h) ↦ ap (λ k. getD (p ∷ ps) k d .0) (place-past i p ps h) ∙ ih (listed-past i p ps h e)
+      | inl h ↦ absurd (both-ways (listed i (p ∷ ps)) (unlisted-above i (p ∷ ps) (h, above-less i (p .0) ps (omega (arith, ints)) (rising-above p ps r))) e)
+      | inr (inl q) ↦ ap (λ k. getD (p ∷ ps) k d .0) (place-first i p ps (omega (arith, ints))) ∙ sym q
+      | inr (inr h) ↦ ap (λ k. getD (p ∷ ps) k d .0) (place-past i p ps h) ∙ ih (listed-past i p ps h e)
     ]
 
 -- what lies before the place is below i
@@ -62,9 +62,9 @@ leads-place i (p ∷ ps) e =
     let parts = or-parts (same i (p .0)) (listed i ps) e in
     let ih = leads-place i ps (parts .1) in
     elim (cases-index i (p .0)) [
-      inl h ↦ subst (λ k. T (leads i (drop k (p ∷ ps)))) (sym (place-first i p ps (omega (arith, ints)))) (h .lt)
-    | inr (inl q) ↦ absurd (both-ways (same i (p .0)) (parts .0) (subst (λ j. same i j ≡ true) q (same-itself i)))
-    | inr (inr h) ↦ subst (λ k. T (leads i (drop k (p ∷ ps)))) (sym (place-past i p ps h)) ih
+      | inl h ↦ subst (λ k. T (leads i (drop k (p ∷ ps)))) (sym (place-first i p ps (omega (arith, ints)))) (h .lt)
+      | inr (inl q) ↦ absurd (both-ways (same i (p .0)) (parts .0) (subst (λ j. same i j ≡ true) q (same-itself i)))
+      | inr (inr h) ↦ subst (λ k. T (leads i (drop k (p ∷ ps)))) (sym (place-past i p ps h)) ih
     ]
 
 -- so an index that is not listed goes to its place

@@ -15,7 +15,11 @@ impl Row {
     pub fn new() -> Self
         ensures { λ r. ⌜ row-pairs r ≡ [] ⌝ }
     {
-        Row { pairs: [(0, 0); CAPACITY], size: 0, total: 0 }
+        Row {
+            pairs: [(0, 0); CAPACITY],
+            size: 0,
+            total: 0,
+        }
     }
 }
 
@@ -29,7 +33,11 @@ pub impl BucketStore for Row as RowStore {
     }
 
     fn pair(&self, position: usize) -> Option<(i32, u64)> {
-        if position < self.size { Some(self.pairs[position]) } else { None }
+        if position < self.size {
+            Some(self.pairs[position])
+        } else {
+            None
+        }
     }
 
     fn has_room(&self, index: i32) -> bool {

@@ -37,14 +37,14 @@ module _ (cs : List ℕ) (first span size sum at first′ span′ : ℕ) (w : Wi
       ⊎-elim
       (λ (e : span ≡ 0). counter-all-unused cs first (λ j a b. w .unused j (omega arith) b) k)
       (λ n.
-        let some : 0 < span = omega arith in
-        let lo = v .lower some in
-        let up = v .upper some in
-        let wide = v .wide in
-        ⊎-elim
-        (λ below. counter-same-place cs (k + 512) k (omega arith) ∙ w .unused (k + 512) (omega arith) (omega arith))
-        (λ above. w .unused k above (omega arith))
-        o)
+      let some : 0 < span = omega arith in
+      let lo = v .lower some in
+      let up = v .upper some in
+      let wide = v .wide in
+      ⊎-elim
+      (λ below. counter-same-place cs (k + 512) k (omega arith) ∙ w .unused (k + 512) (omega arith) (omega arith))
+      (λ above. w .unused k above (omega arith))
+      o)
       (cases-eq span 0)
 
   -- so the wider window lists the same
@@ -53,18 +53,18 @@ module _ (cs : List ℕ) (first span size sum at first′ span′ : ℕ) (w : Wi
       let wide = v .wide in
       ⊎-elim
       (λ (e : span ≡ 0).
-        listing-none (counter cs) first′ span′ (λ k a b. counter-all-unused cs first (λ j x y. w .unused j (omega arith) y) k)
-        ∙ ap (listing (counter cs) first) (sym e))
+      listing-none (counter cs) first′ span′ (λ k a b. counter-all-unused cs first (λ j x y. w .unused j (omega arith) y) k)
+      ∙ ap (listing (counter cs) first) (sym e))
       (λ n.
-        let some : 0 < span = omega arith in
-        let lo = v .lower some in
-        let up = v .upper some in
-        let p : span′ ≡ (first - first′) + (span + (first′ + span′ - (first + span))) = omega arith in
-        let q : first′ + (first - first′) ≡ first = omega arith in
-        ap (listing (counter cs) first′) p
-        ∙ listing-below (counter cs) first′ (first - first′) (span + (first′ + span′ - (first + span))) (λ k a b. around k a (omega arith) (inl (omega arith)))
-        ∙ ap (λ a. listing (counter cs) a (span + (first′ + span′ - (first + span)))) q
-        ∙ listing-above (counter cs) first span (first′ + span′ - (first + span)) (λ k a b. around k (omega arith) (omega arith) (inr a)))
+      let some : 0 < span = omega arith in
+      let lo = v .lower some in
+      let up = v .upper some in
+      let p : span′ ≡ (first - first′) + (span + (first′ + span′ - (first + span))) = omega arith in
+      let q : first′ + (first - first′) ≡ first = omega arith in
+      ap (listing (counter cs) first′) p
+      ∙ listing-below (counter cs) first′ (first - first′) (span + (first′ + span′ - (first + span))) (λ k a b. around k a (omega arith) (inl (omega arith)))
+      ∙ ap (λ a. listing (counter cs) a (span + (first′ + span′ - (first + span)))) q
+      ∙ listing-above (counter cs) first span (first′ + span′ - (first + span)) (λ k a b. around k (omega arith) (omega arith) (inr a)))
       (cases-eq span 0)
 
   module _ (long : length cs ≡ 512) where
@@ -83,12 +83,12 @@ module _ (cs : List ℕ) (first span size sum at first′ span′ : ℕ) (w : Wi
     still-used k h l o =
         ⊎-elim
         (λ e.
-          let x : counter (set cs (at % 512) (counter cs at + 1)) k ≡ counter cs at + 1 =
-            ap (counter (set cs (at % 512) (counter cs at + 1))) e ∙ raised-counter in
-          omega arith)
+        let x : counter (set cs (at % 512) (counter cs at + 1)) k ≡ counter cs at + 1 =
+        ap (counter (set cs (at % 512) (counter cs at + 1))) e ∙ raised-counter in
+        omega arith)
         (λ n.
-          let x = other-counter k h l n in
-          ⊎-elim (λ e. absurd (n e)) (λ u. omega arith) o)
+        let x = other-counter k h l n in
+        ⊎-elim (λ e. absurd (n e)) (λ u. omega arith) o)
         (cases-eq k at)
 
     pub adds : listing (counter (set cs (at % 512) (counter cs at + 1))) first′ span′ ≡ raised (index-of at) (listing (counter cs) first span)
@@ -110,32 +110,32 @@ module _ (cs : List ℕ) (first span size sum at first′ span′ : ℕ) (w : Wi
           width = wide;
           reach = ⊎-elim (λ e. omega arith) (λ e. omega arith) (v .high-end);
           low = λ h. still-used first′ (omega arith) (omega arith)
-            (⊎-elim inl (λ e. inr (subst (λ k. 0 < f k) (sym (e .1)) (w .low (e .0)))) (v .low-end));
+              (⊎-elim inl (λ e. inr (subst (λ k. 0 < f k) (sym (e .1)) (w .low (e .0)))) (v .low-end));
           high = λ h. still-used (first′ + span′ - 1) (omega arith) (omega arith)
-            (⊎-elim (λ e. inl (omega arith))
+              (⊎-elim (λ e. inl (omega arith))
               (λ e. inr (subst (λ k. 0 < f (k - 1)) (sym (e .1)) (w .high (e .0))))
               (v .high-end));
           unused = λ k h l.
-            other-counter k (omega arith) l (λ e. omega arith)
-            ∙ around k (omega arith) l (⊎-elim (λ (e : span ≡ 0). ⊎-elim inl (λ x. inr (omega arith)) (cases-lt k first)) (λ n. let up = v .upper (omega arith) in inr (omega arith)) (cases-eq span 0));
+              other-counter k (omega arith) l (λ e. omega arith)
+              ∙ around k (omega arith) l (⊎-elim (λ (e : span ≡ 0). ⊎-elim inl (λ x. inr (omega arith)) (cases-lt k first)) (λ n. let up = v .upper (omega arith) in inr (omega arith)) (cases-eq span 0));
           sized =
-            let x = length-listing f first′ span′ in
-            let y = length-listing g first′ span′ in
-            let z = ap length listing-widened in
-            let s = w .sized in
-            let one : used (g at) ≡ 1 = used-more (g at) (still-used at from (omega arith) (inl refl)) in
-            let t = sum-change (λ k. used (f k)) (λ k. used (g k)) first′ span′ at from to
+              let x = length-listing f first′ span′ in
+              let y = length-listing g first′ span′ in
+              let z = ap length listing-widened in
+              let s = w .sized in
+              let one : used (g at) ≡ 1 = used-more (g at) (still-used at from (omega arith) (inl refl)) in
+              let t = sum-change (λ k. used (f k)) (λ k. used (g k)) first′ span′ at from to
               (λ k a b n. ap used (other-counter k a (omega arith) n)) in
-            omega arith;
+              omega arith;
           summed =
-            let x = total-listing f first′ span′ in
-            let y = total-listing g first′ span′ in
-            let z = ap total listing-widened in
-            let s = w .summed in
-            let one = raised-counter in
-            let t = sum-change f g first′ span′ at from to (λ k a b n. other-counter k a (omega arith) n) in
-            omega arith;
-          bounded = full
+              let x = total-listing f first′ span′ in
+              let y = total-listing g first′ span′ in
+              let z = ap total listing-widened in
+              let s = w .summed in
+              let one = raised-counter in
+              let t = sum-change f g first′ span′ at from to (λ k a b n. other-counter k a (omega arith) n) in
+              omega arith;
+          bounded = full;
         }
 
     -- no counter passes the sum

@@ -34,7 +34,7 @@ joining-none cs end first′ span′ =
       outside = λ k h l o. counter-replicate k;
       lists = none ∙ sym (ap (λ n. halved-pairs (listing (counter cs) end n)) q);
       met = λ k h l u. absurd (omega arith);
-      sized = sym (ap length none)
+      sized = sym (ap length none);
     }
 
 module _ (cs : List ℕ) (first span size sum first′ span′ : ℕ) (w : Window cs first span size sum) (some : 0 < span) (e : first′ ≡ coarse first) (e′ : first′ + span′ ≡ coarse (first + span - 1) + 1) where
@@ -46,19 +46,19 @@ module _ (cs : List ℕ) (first span size sum first′ span′ : ℕ) (w : Windo
     pub joining-unused : counter cs a ≡ 0 → Joining cs new a (first + span) first′ span′ size′
     joining-unused z =
         let step : listing (counter cs) a (first + span - a) ≡ listing (counter cs) at (first + span - at) =
-          listing-first (counter cs) a (first + span) (omega arith)
-          ∙ ap (λ c. put-count (index-of a) c (listing (counter cs) (a + 1) (first + span - (a + 1)))) z
-          ∙ ap (λ b. listing (counter cs) b (first + span - b)) s in
+        listing-first (counter cs) a (first + span) (omega arith)
+        ∙ ap (λ c. put-count (index-of a) c (listing (counter cs) (a + 1) (first + span - (a + 1)))) z
+        ∙ ap (λ b. listing (counter cs) b (first + span - b)) s in
         record {
           long = j .long;
           outside = λ k u v o. j .outside k u v (⊎-elim (λ x. inl (omega arith)) inr o);
           lists = j .lists ∙ ap halved-pairs (sym step);
           met = λ k u v x.
-            ⊎-elim
-            (λ (q : k ≡ a). absurd (let y = ap (counter cs) q in omega arith))
-            (λ q. j .met k (omega arith) v x)
-            (cases-eq k a);
-          sized = j .sized
+              ⊎-elim
+              (λ (q : k ≡ a). absurd (let y = ap (counter cs) q in omega arith))
+              (λ q. j .met k (omega arith) v x)
+              (cases-eq k a);
+          sized = j .sized;
         }
 
     module _ (b : ℕ) (at-b : b ≡ coarse a) where
@@ -76,9 +76,9 @@ module _ (cs : List ℕ) (first span size sum first′ span′ : ℕ) (w : Windo
           let y = ap total (j .lists) in
           let z = total-halved (listing (counter cs) at (first + span - at)) in
           let t : total (listing (counter cs) a (first + span - a)) ≡ counter cs a + total (listing (counter cs) at (first + span - at)) =
-            ap total (listing-first (counter cs) a (first + span) (omega arith))
-            ∙ total-counted (index-of a) (counter cs a) (listing (counter cs) (a + 1) (first + span - (a + 1)))
-            ∙ ap (λ d. counter cs a + total (listing (counter cs) d (first + span - d))) s in
+          ap total (listing-first (counter cs) a (first + span) (omega arith))
+          ∙ total-counted (index-of a) (counter cs a) (listing (counter cs) (a + 1) (first + span - (a + 1)))
+          ∙ ap (λ d. counter cs a + total (listing (counter cs) d (first + span - d))) s in
           let u = total-listing (counter cs) a (first + span - a) in
           let v = total-listing (counter cs) first span in
           let p : first + (a - first) ≡ a = omega arith in
@@ -126,38 +126,38 @@ module _ (cs : List ℕ) (first span size sum first′ span′ : ℕ) (w : Windo
           let d : suc (f a - 1) ≡ f a = omega arith in
           let up : g′ b ≡ g b + suc (f a - 1) = same-counter ∙ ap (λ n. g b + n) (sym d) in
           let step : listing f a (first + span - a) ≡ (index-of a, f a) ∷ rest =
-            listing-first f a (first + span) (omega arith)
-            ∙ counted-used (index-of a) (f a) (listing f (a + 1) (first + span - (a + 1))) c
-            ∙ ap (λ t. (index-of a, f a) ∷ listing f t (first + span - t)) s in
+          listing-first f a (first + span) (omega arith)
+          ∙ counted-used (index-of a) (f a) (listing f (a + 1) (first + span - (a + 1))) c
+          ∙ ap (λ t. (index-of a, f a) ∷ listing f t (first + span - t)) s in
           record {
             long = length-set new (b % 512) (counter new b + counter cs a) ∙ j .long;
             outside = λ k u v o.
-              other-counter k u v (λ q. ⊎-elim (λ x. omega arith) (λ x. omega arith) o)
-              ∙ j .outside k u v (⊎-elim (λ x. inl (omega arith)) inr o);
+                other-counter k u v (λ q. ⊎-elim (λ x. omega arith) (λ x. omega arith) o)
+                ∙ j .outside k u v (⊎-elim (λ x. inl (omega arith)) inr o);
             lists =
-              listing-joined g g′ first′ span′ b (f a - 1) low high
-              (λ k u v. j .outside k u (omega arith) (inl (omega arith)))
-              up
-              (λ k u v n. other-counter k u (omega arith) n)
-              ∙ ap (λ n. joined (index-of b, n) (listing g first′ span′)) d
-              ∙ ap (λ t. joined (t, f a) (listing g first′ span′)) i
-              ∙ ap (joined (halved (index-of a), f a)) (j .lists)
-              ∙ sym (ap halved-pairs step);
+                listing-joined g g′ first′ span′ b (f a - 1) low high
+                (λ k u v. j .outside k u (omega arith) (inl (omega arith)))
+                up
+                (λ k u v n. other-counter k u (omega arith) n)
+                ∙ ap (λ n. joined (index-of b, n) (listing g first′ span′)) d
+                ∙ ap (λ t. joined (t, f a) (listing g first′ span′)) i
+                ∙ ap (joined (halved (index-of a), f a)) (j .lists)
+                ∙ sym (ap halved-pairs step);
             met = λ k u v x.
-              grown (coarse k) (omega arith) (omega arith) (λ q. c)
-              (λ q.
+                grown (coarse k) (omega arith) (omega arith) (λ q. c)
+                (λ q.
                 ⊎-elim
                 (λ (y : k ≡ a). absurd (q (ap coarse y ∙ sym at-b)))
                 (λ y. j .met k (omega arith) v x)
                 (cases-eq k a));
             sized =
-              let x = length-listing g first′ span′ in
-              let y = length-listing g′ first′ span′ in
-              let z = j .sized in
-              let one : used (g′ b) ≡ 1 = used-more (g′ b) (omega arith) in
-              let t = sum-change (λ k. used (g k)) (λ k. used (g′ k)) first′ span′ b low high
+                let x = length-listing g first′ span′ in
+                let y = length-listing g′ first′ span′ in
+                let z = j .sized in
+                let one : used (g′ b) ≡ 1 = used-more (g′ b) (omega arith) in
+                let t = sum-change (λ k. used (g k)) (λ k. used (g′ k)) first′ span′ b low high
                 (λ k u v n. ap used (other-counter k u (omega arith) n)) in
-              omega arith
+                omega arith;
           }
 
   -- after the last turn
@@ -179,5 +179,5 @@ module _ (cs : List ℕ) (first span size sum first′ span′ : ℕ) (w : Windo
           unused = λ k h l. j .outside k (omega arith) l (inr h);
           sized = j .sized;
           summed = w .summed ∙ sym (ap total joined-listing ∙ total-halved (listing (counter cs) first span));
-          bounded = w .bounded
+          bounded = w .bounded;
         }

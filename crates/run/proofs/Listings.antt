@@ -31,7 +31,7 @@ listing-same f g a zero e = refl
 listing-same f g a (suc n) e =
     let here : f a ≡ g a = e a (omega arith) (omega arith) in
     let rest : listing f (a + 1) n ≡ listing g (a + 1) n =
-      listing-same f g (a + 1) n (λ k h l. e k (omega arith) (omega arith)) in
+    listing-same f g (a + 1) n (λ k h l. e k (omega arith) (omega arith)) in
     cc
 
 -- counters of 0 list nothing
@@ -139,7 +139,7 @@ sum-same f g a zero e = refl
 sum-same f g a (suc n) e =
     let here : g a ≡ f a = e a (omega arith) (omega arith) in
     let rest : sum-of g (a + 1) n ≡ sum-of f (a + 1) n =
-      sum-same f g (a + 1) n (λ k h l. e k (omega arith) (omega arith)) in
+    sum-same f g (a + 1) n (λ k h l. e k (omega arith) (omega arith)) in
     omega arith
 
 -- one summand changed
@@ -148,16 +148,16 @@ sum-change f g a zero i h l e = omega arith
 sum-change f g a (suc n) i h l e =
     ⊎-elim
     (λ q.
-      let rest : sum-of g (a + 1) n ≡ sum-of f (a + 1) n =
-        sum-same f g (a + 1) n (λ k u v. e k (omega arith) (omega arith) (λ w. omega arith)) in
-      let x : f a ≡ f i = ap f q in
-      let y : g a ≡ g i = ap g q in
-      omega arith)
+    let rest : sum-of g (a + 1) n ≡ sum-of f (a + 1) n =
+    sum-same f g (a + 1) n (λ k u v. e k (omega arith) (omega arith) (λ w. omega arith)) in
+    let x : f a ≡ f i = ap f q in
+    let y : g a ≡ g i = ap g q in
+    omega arith)
     (λ q.
-      let rest : sum-of g (a + 1) n + f i ≡ sum-of f (a + 1) n + g i =
-        sum-change f g (a + 1) n i (omega arith) (omega arith) (λ k u v w. e k (omega arith) (omega arith) w) in
-      let here : g a ≡ f a = e a (omega arith) (omega arith) q in
-      omega arith)
+    let rest : sum-of g (a + 1) n + f i ≡ sum-of f (a + 1) n + g i =
+    sum-change f g (a + 1) n i (omega arith) (omega arith) (λ k u v w. e k (omega arith) (omega arith) w) in
+    let here : g a ≡ f a = e a (omega arith) (omega arith) q in
+    omega arith)
     (cases-eq a i)
 
 -- a summand is at most the sum
@@ -191,19 +191,19 @@ listing-raised f g a zero i h l r e = absurd (omega arith)
 listing-raised f g a (suc n) i h l r e =
     ⊎-elim
     (λ q.
-      let rest : listing g (a + 1) n ≡ listing f (a + 1) n =
-        listing-same g f (a + 1) n (λ k u v. e k (omega arith) (omega arith) (λ w. omega arith)) in
-      let x : f a ≡ f i = ap f q in
-      let y : g a ≡ g i = ap g q in
-      let here : g a ≡ suc (f a) = omega arith in
-      let up = raised-here (index-of a) (f a) (listing f (a + 1) n) (above-listing f (a + 1) n a (omega arith)) in
-      let place : index-of a ≡ index-of i = ap index-of q in
-      cc)
+    let rest : listing g (a + 1) n ≡ listing f (a + 1) n =
+    listing-same g f (a + 1) n (λ k u v. e k (omega arith) (omega arith) (λ w. omega arith)) in
+    let x : f a ≡ f i = ap f q in
+    let y : g a ≡ g i = ap g q in
+    let here : g a ≡ suc (f a) = omega arith in
+    let up = raised-here (index-of a) (f a) (listing f (a + 1) n) (above-listing f (a + 1) n a (omega arith)) in
+    let place : index-of a ≡ index-of i = ap index-of q in
+    cc)
     (λ q.
-      let here : g a ≡ f a = e a (omega arith) (omega arith) q in
-      let rest = listing-raised f g (a + 1) n i (omega arith) (omega arith) r (λ k u v w. e k (omega arith) (omega arith) w) in
-      let up = raised-later (index-of i) (index-of a) (f a) (listing f (a + 1) n) (index-below a i (omega arith)) in
-      cc)
+    let here : g a ≡ f a = e a (omega arith) (omega arith) q in
+    let rest = listing-raised f g (a + 1) n i (omega arith) (omega arith) r (λ k u v w. e k (omega arith) (omega arith) w) in
+    let up = raised-later (index-of i) (index-of a) (f a) (listing f (a + 1) n) (index-below a i (omega arith)) in
+    cc)
     (cases-eq a i)
 
 pub counted-used : (i : ℤ) (c : ℕ) (ps : Pairs) → 0 < c → put-count i c ps ≡ (i, c) ∷ ps
@@ -226,21 +226,21 @@ listing-joined f g a zero i d h l z r e = absurd (omega arith)
 listing-joined f g a (suc n) i d h l z r e =
     ⊎-elim
     (λ q.
-      let rest : listing g (a + 1) n ≡ listing f (a + 1) n =
-        listing-same g f (a + 1) n (λ k u v. e k (omega arith) (omega arith) (λ w. omega arith)) in
-      let x : f a ≡ f i = ap f q in
-      let y : g a ≡ g i = ap g q in
-      let here : g a ≡ suc d + f a = omega arith in
-      let up = joined-here (index-of a) d (f a) (listing f (a + 1) n) (above-listing f (a + 1) n a (omega arith)) in
-      let place : index-of a ≡ index-of i = ap index-of q in
-      cc)
+    let rest : listing g (a + 1) n ≡ listing f (a + 1) n =
+    listing-same g f (a + 1) n (λ k u v. e k (omega arith) (omega arith) (λ w. omega arith)) in
+    let x : f a ≡ f i = ap f q in
+    let y : g a ≡ g i = ap g q in
+    let here : g a ≡ suc d + f a = omega arith in
+    let up = joined-here (index-of a) d (f a) (listing f (a + 1) n) (above-listing f (a + 1) n a (omega arith)) in
+    let place : index-of a ≡ index-of i = ap index-of q in
+    cc)
     (λ q.
-      let nought : f a ≡ 0 = z a (omega arith) (omega arith) in
-      let here : g a ≡ 0 = e a (omega arith) (omega arith) q ∙ nought in
-      let rest = listing-joined f g (a + 1) n i d (omega arith) (omega arith) (λ k u v. z k (omega arith) v) r (λ k u v w. e k (omega arith) (omega arith) w) in
-      ap (λ c. put-count (index-of a) c (listing g (a + 1) n)) here
-      ∙ rest
-      ∙ ap (λ c. joined (index-of i, suc d) (put-count (index-of a) c (listing f (a + 1) n))) (sym nought))
+    let nought : f a ≡ 0 = z a (omega arith) (omega arith) in
+    let here : g a ≡ 0 = e a (omega arith) (omega arith) q ∙ nought in
+    let rest = listing-joined f g (a + 1) n i d (omega arith) (omega arith) (λ k u v. z k (omega arith) v) r (λ k u v w. e k (omega arith) (omega arith) w) in
+    ap (λ c. put-count (index-of a) c (listing g (a + 1) n)) here
+    ∙ rest
+    ∙ ap (λ c. joined (index-of i, suc d) (put-count (index-of a) c (listing f (a + 1) n))) (sym nought))
     (cases-eq a i)
 
 -- the pair at a position of the list, past a counter

@@ -98,9 +98,9 @@ pub room-up-to : (lo hi i : ℤ) → lo ≤ℤ hi → hi ≤ℤ (lo +ℤ pos 511
 room-up-to lo hi i o w h =
     ⊎-elim
     (λ e.
-      let l : i ≤ℤ (lo +ℤ pos 511) = leZ-true i (lo +ℤ pos 511) e in
-      e ∙ sym (room-between lo hi i o w h l))
+    let l : i ≤ℤ (lo +ℤ pos 511) = leZ-true i (lo +ℤ pos 511) e in
+    e ∙ sym (room-between lo hi i o w h l))
     (λ e.
-      let l : (lo +ℤ pos 511) <ℤ i = leZ-false i (lo +ℤ pos 511) e in
-      e ∙ sym (room-too-high lo hi i l))
+    let l : (lo +ℤ pos 511) <ℤ i = leZ-false i (lo +ℤ pos 511) e in
+    e ∙ sym (room-too-high lo hi i l))
     (cases-bool (leZ i (lo +ℤ pos 511)))

@@ -15,7 +15,6 @@ use Rattle.run.proofs.Circle.{counter-same-place, counter-set-same, counter-se
 use Rattle.run.proofs.Windows.{Window}
 
 module _ (cs : List ℕ) (first span size sum next : ℕ) (w : Window cs first span size sum) (some : 0 < span) (n : Next (counter cs) (first + 1) (first + span) next) where
-
   first-listed : listing (counter cs) first span ≡ put-count (index-of first) (counter cs first) (listing (counter cs) (first + 1) (span - 1))
   first-listed = let q : span ≡ suc (span - 1) = omega arith in ap (listing (counter cs) first) q
 
@@ -39,7 +38,7 @@ module _ (cs : List ℕ) (first span size sum next : ℕ) (w : Window cs first s
       ap (λ j. Some (j, counter cs first)) e
       ∙ sym
       (ap lowest first-listed
-        ∙ lowest-here (index-of first) (counter cs first) (listing (counter cs) (first + 1) (span - 1)) (w .low some))
+      ∙ lowest-here (index-of first) (counter cs first) (listing (counter cs) (first + 1) (span - 1)) (w .low some))
 
   module _ (long : length cs ≡ 512) where
     cleared : counter (set cs (first % 512) 0) first ≡ 0
@@ -57,17 +56,17 @@ module _ (cs : List ℕ) (first span size sum next : ℕ) (w : Window cs first s
         let q : first + 1 + (next - (first + 1)) ≡ next = omega arith in
         sym
         (ap (listing (counter cs) (first + 1)) p
-          ∙ listing-below (counter cs) (first + 1) (next - (first + 1)) (first + span - next) (λ k h l. n .none k h (omega arith))
-          ∙ ap (λ a. listing (counter cs) a (first + span - next)) q
-          ∙ listing-same (counter cs) (counter (set cs (first % 512) 0)) next (first + span - next)
-          (λ k h l. sym (other-counter k (omega arith) (omega arith))))
+        ∙ listing-below (counter cs) (first + 1) (next - (first + 1)) (first + span - next) (λ k h l. n .none k h (omega arith))
+        ∙ ap (λ a. listing (counter cs) a (first + span - next)) q
+        ∙ listing-same (counter cs) (counter (set cs (first % 512) 0)) next (first + span - next)
+        (λ k h l. sym (other-counter k (omega arith) (omega arith))))
 
     pub takes-rest : listing (counter (set cs (first % 512) 0)) next (first + span - next) ≡ without-lowest (listing (counter cs) first span)
     takes-rest =
         rest-kept
         ∙ sym
         (ap without-lowest first-listed
-          ∙ without-here (index-of first) (counter cs first) (listing (counter cs) (first + 1) (span - 1)) (w .low some))
+        ∙ without-here (index-of first) (counter cs first) (listing (counter cs) (first + 1) (span - 1)) (w .low some))
 
     pub takes-window : Window (set cs (first % 512) 0) next (first + span - next) (size - 1) (sum - counter cs first)
     takes-window =
@@ -81,22 +80,22 @@ module _ (cs : List ℕ) (first span size sum next : ℕ) (w : Window cs first s
           reach = omega arith;
           low = λ h. let x = other-counter next (omega arith) (omega arith) in let y = n .here (omega arith) in omega arith;
           high = λ h.
-            let q : next + (first + span - next) - 1 ≡ first + span - 1 = omega arith in
-            let x = other-counter (first + span - 1) (omega arith) (omega arith) in
-            let y = w .high some in
-            let z = ap (counter new) q in
-            omega arith;
+              let q : next + (first + span - next) - 1 ≡ first + span - 1 = omega arith in
+              let x = other-counter (first + span - 1) (omega arith) (omega arith) in
+              let y = w .high some in
+              let z = ap (counter new) q in
+              omega arith;
           unused = λ k h l.
-            ⊎-elim
-            (λ near. other-counter k (omega arith) near ∙ w .unused k (omega arith) near)
-            (λ far.
+              ⊎-elim
+              (λ near. other-counter k (omega arith) near ∙ w .unused k (omega arith) near)
+              (λ far.
               counter-same-place new (k - 512) k (omega arith)
               ∙ ⊎-elim
               (λ e. ap (counter new) e ∙ cleared)
               (λ ne. other-counter (k - 512) (omega arith) (omega arith) ∙ n .none (k - 512) (omega arith) (omega arith))
               (cases-eq (k - 512) first))
-            (cases-lt k (first + 512));
+              (cases-lt k (first + 512));
           sized = let a = size-parts in let b = ap length rest-kept in omega arith;
           summed = let a = sum-parts in let b = ap total rest-kept in omega arith;
-          bounded = let a = w .bounded in omega arith
+          bounded = let a = w .bounded in omega arith;
         }

@@ -36,12 +36,12 @@ abbrev pub Kept : List ℕ → ℕ → ℕ → ℕ → ℕ → Type 0
 Kept counters first span size sum =
     (span ≤ 512)
     × ((first + span ≤ positions)
-      × ((0 < span → 0 < counter counters first)
-        × ((0 < span → 0 < counter counters (first + span - 1))
-          × (((k : ℕ) → first + span ≤ k → k < first + 512 → counter counters k ≡ 0)
-            × ((size ≡ length (listing (counter counters) first span))
-              × ((sum ≡ total (listing (counter counters) first span))
-                × ((sum < 2 ^ 64) × Unit {0})))))))
+    × ((0 < span → 0 < counter counters first)
+    × ((0 < span → 0 < counter counters (first + span - 1))
+    × (((k : ℕ) → first + span ≤ k → k < first + 512 → counter counters k ≡ 0)
+    × ((size ≡ length (listing (counter counters) first span))
+    × ((sum ≡ total (listing (counter counters) first span))
+    × ((sum < 2 ^ 64) × Unit {0})))))))
 
 pub kept : {counters : List ℕ} {first span size sum : ℕ} → Window counters first span size sum → Kept counters first span size sum
 kept w = (w .width, (w .reach, (w .low, (w .high, (w .unused, (w .sized, (w .summed, (w .bounded, tt))))))))
@@ -56,7 +56,7 @@ window-of run =
       unused = run .unused;
       sized = run .sized;
       summed = run .summed;
-      bounded = run .bounded
+      bounded = run .bounded;
     }
 
 -- nothing listed
@@ -70,7 +70,7 @@ window-new =
       unused = λ k h l. counter-replicate k;
       sized = refl;
       summed = refl;
-      bounded = lit< tt
+      bounded = lit< tt;
     }
 
 -- room, by the ends of the window
@@ -89,24 +89,24 @@ window-means {cs} {first} {span} w =
     record {
       rises = rising-listing (counter cs) first span;
       counts = counted-listing (counter cs) first span;
-      bounded = let e = w .summed in let h = w .bounded in omega arith
+      bounded = let e = w .summed in let h = w .bounded in omega arith;
     }
 
 pub window-roomy : {cs : List ℕ} {first span size sum : ℕ} → Window cs first span size sum → Roomy (listing (counter cs) first span) (fits-window (listing (counter cs) first span))
 window-roomy {cs} {first} {span} w =
     record {
       for-listed = λ i t.
-        let in-it = listed-within (counter cs) first span i t in
-        let wide = w .width in
-        ⊎-elim
-        (λ (e : span ≡ 0). absurd (subst (λ n. T (listed i (listing (counter cs) first n))) e t))
-        (λ n.
+          let in-it = listed-within (counter cs) first span i t in
+          let wide = w .width in
+          ⊎-elim
+          (λ (e : span ≡ 0). absurd (subst (λ n. T (listed i (listing (counter cs) first n))) e t))
+          (λ n.
           let h : 0 < span = omega arith in
           let lo : index-of first ≤ℤ index-of (first + span - 1) = omega (arith, ints) in
           let hi : index-of (first + span - 1) ≤ℤ (index-of first +ℤ pos 511) = omega (arith, ints) in
           let near : index-of (first + span - 1) ≤ℤ (i +ℤ pos 511) = omega (arith, ints) in
           let far : i ≤ℤ (index-of first +ℤ pos 511) = omega (arith, ints) in
           true-T _ (window-room i w h ∙ room-between (index-of first) (index-of (first + span - 1)) i lo hi near far))
-        (cases-eq span 0);
-      when-empty = λ e i t. true-T _ (ap (λ ps. fits-window ps i) e ∙ room-empty i)
+          (cases-eq span 0);
+      when-empty = λ e i t. true-T _ (ap (λ ps. fits-window ps i) e ∙ room-empty i);
     }

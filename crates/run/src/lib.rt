@@ -7,7 +7,6 @@ ghost use Rattle.run.specs.Window.{positions, counter, listing};
 
 mod bucket_store;
 mod places;
-
 #[cfg(test)]
 mod tests;
 

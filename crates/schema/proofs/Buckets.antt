@@ -63,10 +63,13 @@ module _ (a : ℕ) (h : a ≤ 8) (e : ℤ) (u n : ℕ) (x : Exactly u n (e +ℤ 
     where
       last : (d : ℕ) → 0 < d → d - 1 < d
       last d g = omega arith
+
       up-one : (e : ℤ) → e +ℤ pos 1021 ≡ e +ℤ pos 1020 +ℤ pos 1
       up-one e = omega (arith, ints)
+
       turned : (e : ℤ) → e -ℤ pos 2 +ℤ pos 1 +ℤ pos 1021 ≡ e +ℤ pos 1020
       turned e = omega (arith, ints)
+
       before : (e : ℤ) (d : ℕ) → 0 < d → (e -ℤ pos 1) *ℤ pos d -ℤ pos 1 ≡ (e -ℤ pos 2) *ℤ pos d +ℤ pos (d - 1)
       before e d g = omega (arith, ints, next-multiple (e -ℤ pos 2) d, ap (λ (k : ℤ). k *ℤ pos d) (back e))
         where
@@ -78,10 +81,12 @@ module _ (a : ℕ) (h : a ≤ 8) (e : ℤ) (u n : ℕ) (x : Exactly u n (e +ℤ 
     where
       r : Table-rules a
       r = table-rules a h
+
       within : u ≤ cut (pos a) ((e -ℤ pos 1) *ℤ pos (2 ^ a) +ℤ pos j)
       within =
           ⊎-elim (λ l. entry-within j l (p .after j (le-refl j) (lt-of-lt-of-le l (le-of-eq (sym (r .long))))))
           (λ l. octave-within j l (le-trans (p .within) (le-of-eq (r .long)))) (cases-lt j (2 ^ a))
+
       above : (j : ℕ) → Parted n (table a) j → cut (pos a) ((e -ℤ pos 1) *ℤ pos (2 ^ a) +ℤ pos j -ℤ pos 1) < u
       above zero q = subst (λ (i : ℤ). cut (pos a) i < u) (same (e -ℤ pos 1) (2 ^ a)) octave-above
         where
@@ -103,20 +108,24 @@ fine-lies a v h f g =
 wide-lies : (b : ℕ) (u : ℕ) (i : ℤ) → Lies (pos 0) u i → Lies (negsuc b) u (quotient (2 ^ suc b) (i +ℤ pos (2 ^ suc b - 1)))
 wide-lies b u i l = record {
   above = lt-of-le-of-lt (le-trans (le-of-eq (cut-wide b (k -ℤ pos 1))) (climb (cut (pos 0)) (λ x. fine-rises 0 x zero-le) ((k -ℤ pos 1) *ℤ pos (2 ^ suc b)) (i -ℤ pos 1) below)) (l .above);
-  within = le-trans (l .within) (le-trans (climb (cut (pos 0)) (λ x. fine-rises 0 x zero-le) i (k *ℤ pos (2 ^ suc b)) over) (le-of-eq (sym (cut-wide b k))))
+  within = le-trans (l .within) (le-trans (climb (cut (pos 0)) (λ x. fine-rises 0 x zero-le) i (k *ℤ pos (2 ^ suc b)) over) (le-of-eq (sym (cut-wide b k))));
 }
   where
     k : ℤ
     k = quotient (2 ^ suc b) (i +ℤ pos (2 ^ suc b - 1))
+
     reach : (i j : ℤ) (d r : ℕ) → 0 < d → r < d → i +ℤ pos (d - 1) ≡ j *ℤ pos d +ℤ pos r → (i ≤ℤ (j *ℤ pos d)) × (((j -ℤ pos 1) *ℤ pos d) ≤ℤ (i -ℤ pos 1))
     reach i j d r p q e = (omega (arith, ints), omega (arith, ints, next-multiple (j -ℤ pos 1) d, ap (λ (z : ℤ). z *ℤ pos d) (back j)))
       where
         back : (j : ℤ) → j -ℤ pos 1 +ℤ pos 1 ≡ j
         back j = omega (arith, ints)
+
     reached : (i ≤ℤ (k *ℤ pos (2 ^ suc b))) × (((k -ℤ pos 1) *ℤ pos (2 ^ suc b)) ≤ℤ (i -ℤ pos 1))
     reached = reach i k (2 ^ suc b) (remainder (2 ^ suc b) (i +ℤ pos (2 ^ suc b - 1))) (pow-pos (suc b)) (remainder-lt (2 ^ suc b) (i +ℤ pos (2 ^ suc b - 1)) (pow-pos (suc b))) (divided (2 ^ suc b) (i +ℤ pos (2 ^ suc b - 1)) (pow-pos (suc b)))
+
     over : i ≤ℤ (k *ℤ pos (2 ^ suc b))
     over = reached .0
+
     below : ((k -ℤ pos 1) *ℤ pos (2 ^ suc b)) ≤ℤ (i -ℤ pos 1)
     below = reached .1
 

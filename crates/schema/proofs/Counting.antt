@@ -39,6 +39,7 @@ parted-more n x ns j l p = record { within = suc-le-suc (p .within); before = be
     before : (k : ℕ) → k < suc j → getD (x ∷ ns) k 0 < n
     before zero a = l
     before (suc k) a = p .before k (le-of-suc-le-suc a)
+
     after : (k : ℕ) → suc j ≤ k → k < suc (length ns) → n ≤ getD (x ∷ ns) k 0
     after zero a b = absurd (not-suc-le-zero a)
     after (suc k) a b = p .after k (le-of-suc-le-suc a) (le-of-suc-le-suc b)
@@ -85,6 +86,7 @@ full-table a h k g = (low k (lt-of-lt-of-le g (le-of-eq (r .long))), r .below-on
   where
     r : Table-rules a
     r = table-rules a h
+
     low : (k : ℕ) → k < 2 ^ a → 2 ^ 52 ≤ entry a k
     low zero l = le-of-eq (sym (r .first))
     low (suc k) l = le-trans (low k (le-of-lt l)) (le-of-lt (subst (λ (j : ℕ). entry a k < entry a j) (add-one k) (r .rises k (lt-of-le-of-lt (le-of-eq (add-one k)) l))))

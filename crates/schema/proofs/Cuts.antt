@@ -49,15 +49,19 @@ rise-fine a k j h l = ⊎-elim inside outside (cases-lt (j + 1) (2 ^ a))
   where
     r : Table-rules a
     r = table-rules a h
+
     step : (k : ℤ) (d j : ℕ) → k *ℤ pos d +ℤ pos j +ℤ pos 1 ≡ k *ℤ pos d +ℤ pos (j + 1)
     step k d j = omega (arith, ints)
+
     inside : j + 1 < 2 ^ a → cut (pos a) (k *ℤ pos (2 ^ a) +ℤ pos j) ≤ cut (pos a) (k *ℤ pos (2 ^ a) +ℤ pos j +ℤ pos 1)
     inside g =
         le-trans (le-of-eq (cut-at a k j l))
         (le-trans (scaled-mono (entry a j) (entry a (j + 1)) (k +ℤ pos 1 +ℤ pos 1021) (le-of-lt (r .rises j g)))
         (le-of-eq (sym (ap (cut (pos a)) (step k (2 ^ a) j) ∙ cut-at a k (j + 1) g))))
+
     wrap : (k : ℤ) (d j : ℕ) → j < d → d ≤ j + 1 → k *ℤ pos d +ℤ pos j +ℤ pos 1 ≡ (k +ℤ pos 1) *ℤ pos d
     wrap k d j p q = omega (arith, ints, next-multiple k d)
+
     outside : 2 ^ a ≤ j + 1 → cut (pos a) (k *ℤ pos (2 ^ a) +ℤ pos j) ≤ cut (pos a) (k *ℤ pos (2 ^ a) +ℤ pos j +ℤ pos 1)
     outside g =
         le-trans (le-of-eq (cut-at a k j l))
@@ -109,8 +113,10 @@ nested-fine a i h =
   where
     q : ℤ
     q = quotient (2 ^ a) i
+
     r : ℕ
     r = remainder (2 ^ a) i
+
     fewer : (r d : ℕ) → r < d → 2 * r < 2 * d
     fewer r d h = omega arith
 

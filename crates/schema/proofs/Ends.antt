@@ -68,5 +68,5 @@ schema-ends s h = record {
   over-top = ltb→lt _ _ (at-schema (λ t. ltb (2 ^ 2098) (cut t (highest-index t))) tt s h);
   under-bottom = eqb→eq _ _ (at-schema (λ t. eqb (cut t (lowest-index t -ℤ pos 1)) 0) tt s h);
   low-range = at-schema (λ t. in-range (lowest-index t)) tt s h;
-  high-range = at-schema (λ t. in-range (highest-index t)) tt s h
+  high-range = at-schema (λ t. in-range (highest-index t)) tt s h;
 }

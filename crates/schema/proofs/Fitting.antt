@@ -43,17 +43,21 @@ first-is (suc n) s f = go (le (growth s) f) refl (first-is n (s +ℤ pos 1) f)
       from = under s (first-from n (s +ℤ pos 1) f) (r .from);
       upto = over s (first-from n (s +ℤ pos 1) f) (r .upto);
       fitting = elim (r .fitting) [ inl q ↦ inl (q ∙ same s n) | inr t ↦ inr t ];
-      least = λ t l g. by-ltZ s t (λ h. r .least t (next s t h) g) (λ h. subst (λ (x : ℤ). T (not (le (growth x) f))) (equal s t l h) (subst (λ (b : Bool). T (not b)) (sym e) tt))
+      least = λ t l g. by-ltZ s t (λ h. r .least t (next s t h) g) (λ h. subst (λ (x : ℤ). T (not (le (growth x) f))) (equal s t l h) (subst (λ (b : Bool). T (not b)) (sym e) tt));
     }
       where
         under : (s r : ℤ) → (s +ℤ pos 1) ≤ℤ r → s ≤ℤ r
         under s r h = omega (arith, ints)
+
         over : (s r : ℤ) → r ≤ℤ (s +ℤ pos 1 +ℤ pos n) → r ≤ℤ (s +ℤ pos (suc n))
         over s r h = omega (arith, ints)
+
         same : (s : ℤ) (n : ℕ) → s +ℤ pos 1 +ℤ pos n ≡ s +ℤ pos (suc n)
         same s n = omega (arith, ints)
+
         next : (s t : ℤ) → s <ℤ t → (s +ℤ pos 1) ≤ℤ t
         next s t h = omega (arith, ints)
+
         equal : (s t : ℤ) → s ≤ℤ t → t ≤ℤ s → s ≡ t
         equal s t l h = omega (arith, ints)
 
@@ -63,6 +67,7 @@ schema-smallest f = record { known = known (first-from 12 (negsuc 3) f) (r .from
   where
     r : First 12 (negsuc 3) f (first-from 12 (negsuc 3) f)
     r = first-is 12 (negsuc 3) f
+
     known : (x : ℤ) → negsuc 3 ≤ℤ x → x ≤ℤ pos 8 → T (is-schema x)
     known x l h = both (leZ (negsuc 3) x) (leZ x (pos 8)) (l .le) (h .le)
 

@@ -37,11 +37,12 @@ infinite-lies s n h =
     subst (Lies s (units (inf n))) (sym (e .top))
     (record {
       above = lt-of-lt-of-le (over (2 ^ 2098) (e .under-top)) (le-of-eq (sym (units-infinite n)));
-      within = le-trans (le-of-eq (units-infinite n)) (more (2 ^ 2098) (e .over-top))
+      within = le-trans (le-of-eq (units-infinite n)) (more (2 ^ 2098) (e .over-top));
     })
   where
     over : (C : ℕ) {m : ℕ} → m ≤ C → m < C + 1
     over C h = omega arith
+
     more : (C : ℕ) {m : ℕ} → C < m → C + 1 ≤ m
     more C h = omega arith
 
@@ -79,7 +80,7 @@ only-bucket s v h f g =
       here = subst T (sym (bucket-is s (index s v) v k)) (both _ _ (lt→ltb _ _ (l .above)) (le→leb _ _ (l .within)));
       only = λ j t.
           let b : T (ltb (cut s (j -ℤ pos 1)) (units v) && leb (units v) (cut s j)) = subst T (bucket-is s j v k) t in
-          lies-only s j (index s v) (units v) h (record { above = ltb→lt _ _ (and-left _ _ b); within = leb→le _ _ (and-right _ _ b) }) l
+          lies-only s j (index s v) (units v) h (record { above = ltb→lt _ _ (and-left _ _ b); within = leb→le _ _ (and-right _ _ b) }) l;
     }
 
 -- ---- a coarser schema
@@ -89,6 +90,7 @@ halved-index s v h g f n = coarse (index (s -ℤ pos 1) v) (index s v) (number-l
   where
     u : ℕ
     u = units v
+
     coarse : (i j : ℤ) → Lies (s -ℤ pos 1) u i → Lies s u j → i ≡ halved j
     coarse i j p q =
         by-ltZ (i +ℤ i) j (λ l. absurd (lt-irrefl u (lt-of-le-of-lt (le-trans (le-trans (p .within) (le-of-eq (nested s i h g))) (cut-mono s (i +ℤ i) (j -ℤ pos 1) h (omega (arith, ints)))) (q .above))))
@@ -111,18 +113,23 @@ index-ranged s v h f g = record { low = low; high = high; inside = between (lowe
   where
     e : Ends s
     e = schema-ends s h
+
     l : Lies s (units v) (index s v)
     l = number-lies s v h f g
+
     over : (C : ℕ) {m : ℕ} → C < m → C + 1 ≤ m
     over C h = omega arith
+
     low : lowest-index s ≤ℤ index s v
     low = by-ltZ (index s v) (lowest-index s)
         (λ b. absurd (not-suc-le-zero (lt-of-lt-of-le (l .above) (le-trans (l .within) (le-trans (cut-mono s (index s v) (lowest-index s -ℤ pos 1) h (omega (arith, ints))) (le-of-eq (e .under-bottom)))))))
         (λ b. b)
+
     high : index s v ≤ℤ highest-index s
     high = by-ltZ (highest-index s) (index s v)
         (λ b. absurd (lt-irrefl (units v) (lt-of-le-of-lt (le-trans (units-most v f g) (le-trans (over (2 ^ 2098) (e .over-top)) (cut-mono s (highest-index s) (index s v -ℤ pos 1) h (omega (arith, ints))))) (l .above))))
         (λ b. b)
+
     between : (a i b : ℤ) → a ≤ℤ i → i ≤ℤ b → T (in-range a) → T (in-range b) → T (in-range i)
     between a i b p q x y =
         let la : negsuc 274943 ≤ℤ a = record { le = and-left (leZ (negsuc 274943) a) (leZ a (pos 262145)) x } in
@@ -144,7 +151,7 @@ exact-of s i u h = le-div-iff-mul-le (down-pos (power s i +ℤ pos 1021)) .0 h
 pub bound-largest : (s i : ℤ) → Largest s i (bound s i)
 bound-largest s i = record {
   within = le→leb _ _ (exact-of s i (units (bound s i)) (largest-within (cut s i)));
-  reaches = λ v k t. subst T (sym (le-largest v (cut s i) k)) (le→leb _ _ (of-exact s i (units v) (leb→le _ _ t)))
+  reaches = λ v k t. subst T (sym (le-largest v (cut s i) k)) (le→leb _ _ (of-exact s i (units v) (leb→le _ _ t)));
 }
 
 pub bound-rises : (s i : ℤ) → T (is-schema s) → T (le (bound s i) (bound s (i +ℤ pos 1)))

@@ -63,6 +63,7 @@ few-digits n h = ap (λ (z : ℕ). z * 2 ^ 52 + n / 2 ^ z) (none (size n) (size-
   where
     none : (z : ℕ) → z ≤ 53 → z - 53 ≡ 0
     none z h = omega arith
+
     whole : (n : ℕ) → n / 1 ≡ n → 0 * 2 ^ 52 + n / 2 ^ 0 ≡ n
     whole n e = omega arith
 
@@ -83,6 +84,7 @@ made-zero m (negsuc k) h g =
   where
     wide : 53 ≤ suc k
     wide = omega (arith, ints)
+
     nothing : m / 2 ^ suc k ≡ 0
     nothing = none (m / 2 ^ suc k) (div-lt-iff-lt-mul (pow-pos (suc k)) .1 (lt-of-lt-of-le h (le-trans (pow-mono wide) (le-of-eq (sym (one-mul (2 ^ suc k)))))))
       where

@@ -60,15 +60,18 @@ proper-rules a (x ∷ xs) ts h g = record {
   first = eqb→eq x (2 ^ 52) (and-left _ _ (and-left _ _ h));
   below-one = λ j k. rising-below x xs rise j (lt-of-lt-of-le k (le-of-eq (sym long)));
   rises = λ j k. subst (λ (n : ℕ). getD (x ∷ xs) j 0 < getD (x ∷ xs) n 0) (sym (add-one j)) (rising-at x xs rise j (within j (length xs) (lt-of-lt-of-le k (le-of-eq (sym long)))));
-  nested = next ts g
+  nested = next ts g;
 }
   where
     long : length (x ∷ xs) ≡ 2 ^ a
     long = eqb→eq (length (x ∷ xs)) (2 ^ a) (and-right (eqb x (2 ^ 52) && rising-from x xs) (eqb (length (x ∷ xs)) (2 ^ a)) h)
+
     rise : T (rising-from x xs)
     rise = and-right (eqb x (2 ^ 52)) (rising-from x xs) (and-left (eqb x (2 ^ 52) && rising-from x xs) (eqb (length (x ∷ xs)) (2 ^ a)) h)
+
     within : (j n : ℕ) → j + 1 < suc n → j < n
     within j n h = omega arith
+
     next : (us : List (List ℕ)) → T (thins-next us (x ∷ xs)) → 0 < length us → (j : ℕ) → getD (getD us 0 []) (2 * j) 0 ≡ getD (x ∷ xs) j 0
     next [] g k j = absurd (not-suc-le-zero k)
     next (u ∷ us) g k j = thins-at u (x ∷ xs) g j
@@ -87,6 +90,7 @@ rules-from a (t ∷ ts) h (suc k) g =
   where
     rest : (n k : ℕ) → suc n - suc (suc k) ≡ n - suc k
     rest n k = omega arith
+
     over : (a k : ℕ) → suc a + k ≡ a + suc k
     over a k = omega arith
 
@@ -115,11 +119,12 @@ table-rules a h =
       first = r .first;
       below-one = λ j g. r .below-one j (subst (λ (b : ℕ). j < 2 ^ b) (sym (zero-add a)) g);
       rises = λ j g. r .rises j (subst (λ (b : ℕ). j + 1 < 2 ^ b) (sym (zero-add a)) g);
-      nested = λ l j g. ap (λ (b : ℕ). getD (getD tables b []) (2 * j) 0) (add-one a) ∙ r .nested (some (length tables) nine l) j
+      nested = λ l j g. ap (λ (b : ℕ). getD (getD tables b []) (2 * j) 0) (add-one a) ∙ r .nested (some (length tables) nine l) j;
     }
   where
     within : (n : ℕ) → n ≡ 9 → a < n
     within n e = omega arith
+
     some : (n : ℕ) → n ≡ 9 → a < 8 → 0 < n - suc a
     some n e l = omega arith
 

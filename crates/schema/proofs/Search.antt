@@ -92,7 +92,7 @@ module _ (a : ℕ) (known : a ≤ 8) where
       ∙ parted-count n (table a) low (record {
         within = le-trans (w .ordered) (le-trans (w .inside) (le-of-eq (sym (rule .long))));
         before = w .before;
-        after = λ k g b. w .after k (le-trans h g) (lt-of-lt-of-le b (le-of-eq (rule .long)))
+        after = λ k g b. w .after k (le-trans h g) (lt-of-lt-of-le b (le-of-eq (rule .long)));
       })
 
 -- ---- at a program's variables

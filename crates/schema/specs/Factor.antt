@@ -10,8 +10,8 @@ use lib.Ieee.{Float, le, lt}
 use Rattle.double.specs.Double.{one}
 use Rattle.schema.specs.Bounds.{bound, is-schema}
 
--- How much a bound grows from one index to the next: 2^(2^-s), which is the bound of index 1.
--- At s > 0 that is twice entry 1 of the schema's table.
+-- How much a bound grows from one index to the next: the bound of index 1.
+-- At s ≤ 0 that is 2^(2^-s), and at s > 0 twice entry 1 of the schema's table, which stands for that number.
 abbrev pub growth : ℤ → Float
 growth s = bound s (pos 1)
 

@@ -19,7 +19,9 @@ fn first_fitting(factor: f64) -> Schema
     ensures { λ r. ⌜ r .value ≡ schema-for factor ⌝ }
 {
     for step in 0..12u8 {
-        let schema = Schema { value: step as i8 - 4 };
+        let schema = Schema {
+            value: step as i8 - 4,
+        };
         if positive_upper_bound(schema, 1) <= factor {
             return schema;
         }
@@ -61,7 +63,9 @@ impl Schema {
         ensures { λ r. ⌜ BySome r (self .value ≡ negℤ (pos 4)) (λ t. Coarser (self .value) (t .value)) ⌝ }
     {
         if self.value > -4 {
-            Some(Schema { value: self.value - 1 })
+            Some(Schema {
+                value: self.value - 1,
+            })
         } else {
             None
         }
@@ -73,6 +77,9 @@ impl Schema {
         ensures highest { λ r. ⌜ r .1 ≡ highest-index (self .value) ⌝ }
         ensures reached { λ _. ⌜ Ends-reached (self .value) ⌝ }
     {
-        (finite_index(self, f64::from_bits(1)), finite_index(self, f64::MAX) + 1)
+        (
+            finite_index(self, f64::from_bits(1)),
+            finite_index(self, f64::MAX) + 1,
+        )
     }
 }

@@ -27,8 +27,14 @@ pub impl fmt::Display for SchemaFault as SchemaFaultDisplay {
     fn fmt<W: fmt::Write>(&self, f: &mut fmt::Formatter<W>) -> fmt::Result {
         let number = self.number();
         match self {
-            SchemaFault::OutOfRange => write!(f, "refusal {number}: a schema is a whole number from -4 to 8"),
-            SchemaFault::BadFactor => write!(f, "refusal {number}: a bucket factor is a number above 1"),
+            SchemaFault::OutOfRange => write!(
+                f,
+                "refusal {number}: a schema is a whole number from -4 to 8"
+            ),
+            SchemaFault::BadFactor => write!(
+                f,
+                "refusal {number}: a bucket factor is a number above 1"
+            ),
         }
     }
 }

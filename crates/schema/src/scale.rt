@@ -18,7 +18,11 @@ pub(crate) fn scale(mantissa: u64, power: i64) -> f64
     if shift > 2046 {
         f64::INFINITY
     } else if shift == 2046 {
-        if mantissa > 0x10_0000_0000_0000 { f64::INFINITY } else { f64::MAX }
+        if mantissa > 0x10_0000_0000_0000 {
+            f64::INFINITY
+        } else {
+            f64::MAX
+        }
     } else if shift >= 0 {
         f64::from_bits((shift as u64) * 0x10_0000_0000_0000 + mantissa)
     } else if shift > -53 {

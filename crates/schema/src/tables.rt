@@ -17,8 +17,7 @@ pub(crate) fn entries(a: usize) -> &'static [f64]
 pub fn tables_stand()
     ensures tested { λ _. ⌜ T (lawful-from 0 tables) ⌝ }
     ensures rules { λ _. ⌜ ((a : ℕ) → a ≤ 8 → Table-rules a) ⌝ }
-{
-}
+{}
 
 // Schema s, from 0 to 8, has 2^s entries.
 pub const NATIVE_HISTOGRAM_BOUNDS: [&[f64]; 9] = [

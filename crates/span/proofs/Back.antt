@@ -28,8 +28,8 @@ unfilled-from : (next : ℤ) (ps : Pairs) → T (counted ps) → nonzero (filled
 unfilled-from next [] c = refl
 unfilled-from next (p ∷ ps) c =
     let e : nonzero (p ∷ filled-from (p .0 +ℤ pos 1) ps) ≡ p ∷ ps =
-        cond-true (ltb 0 (p .1)) _ _ (lt-ltb 0 (p .1) (counted-first p ps c))
-        ∙ ap (λ xs. p ∷ xs) (unfilled-from (p .0 +ℤ pos 1) ps (counted-tail p ps c)) in
+    cond-true (ltb 0 (p .1)) _ _ (lt-ltb 0 (p .1) (counted-first p ps c))
+    ∙ ap (λ xs. p ∷ xs) (unfilled-from (p .0 +ℤ pos 1) ps (counted-tail p ps c)) in
     by-filler (λ xs. nonzero (xs ++ p ∷ filled-from (p .0 +ℤ pos 1) ps) ≡ p ∷ ps) next (p .0) (λ _. e) (λ _. e) e
 
 unfilled : (ps : Pairs) → T (counted ps) → nonzero (filled ps) ≡ ps
@@ -67,8 +67,8 @@ indices-from at o n next [] here = refl
 indices-from at o n next (p ∷ ps) here =
     cond-both (same (p .0) next) _ _ (λ xs. indices at xs ≡ consecutive (at +ℤ o) n ++ places (p ∷ ps))
     (λ t.
-      let e = same-true (p .0) next t in
-      on-same at o n next here p ps e (indices-from at o (n + 1) (p .0 +ℤ pos 1) ps (omega (arith, ints))))
+    let e = same-true (p .0) next t in
+    on-same at o n next here p ps e (indices-from at o (n + 1) (p .0 +ℤ pos 1) ps (omega (arith, ints))))
     (λ _. on-other at o n next here p ps (indices-from (at +ℤ o +ℤ pos n) (p .0 -ℤ next) 1 (p .0 +ℤ pos 1) ps (omega (arith, ints))))
 
 indices-runs : (ps : Pairs) → indices (pos 0) (runs ps) ≡ places ps
@@ -143,13 +143,13 @@ spans-none k at o n next (p ∷ ps) w c =
     let e = w .here in
     cond-both (same (p .0) next) _ _ (λ xs. spans-refusal k at xs ≡ None)
     (λ q.
-      let f = same-true (p .0) next q in
-      spans-none k at o (n + 1) (p .0 +ℤ pos 1) ps (record { some = omega arith; on = w .on; low = w .low; here = omega (arith, ints) }) (c .1))
+    let f = same-true (p .0) next q in
+    spans-none k at o (n + 1) (p .0 +ℤ pos 1) ps (record { some = omega arith; on = w .on; low = w .low; here = omega (arith, ints) }) (c .1))
     (λ _.
-      none-from _ _ (closes k at o n next w (omega (arith, ints)))
-      (spans-none (k + 1) (at +ℤ o +ℤ pos n) (p .0 -ℤ next) 1 (p .0 +ℤ pos 1) ps
-       (record { some = omega arith; on = and-right (ltb 0 (k + 1)) (ltZ (p .0 -ℤ next) (pos 0)) (not-ltZ (p .0 -ℤ next) (pos 0) (omega (arith, ints))); low = omega (arith, ints); here = omega (arith, ints) })
-       (c .1)))
+    none-from _ _ (closes k at o n next w (omega (arith, ints)))
+    (spans-none (k + 1) (at +ℤ o +ℤ pos n) (p .0 -ℤ next) 1 (p .0 +ℤ pos 1) ps
+    (record { some = omega arith; on = and-right (ltb 0 (k + 1)) (ltZ (p .0 -ℤ next) (pos 0)) (not-ltZ (p .0 -ℤ next) (pos 0) (omega (arith, ints))); low = omega (arith, ints); here = omega (arith, ints) })
+    (c .1)))
 
 runs-none : (ps : Pairs) → Climbs (negsuc 274943) ps → spans-refusal 0 (pos 0) (runs ps) ≡ None
 runs-none [] c = refl
@@ -168,13 +168,13 @@ reading-back ps w =
     let e : lengths (runs (filled ps)) ≡ length (differences 0 (filled ps)) = lengths-runs fs ∙ sym (length-differences 0 fs) in
     record {
       accepted =
-        none-from _ _ (cond-true _ _ _ (eq-eqb (lengths (runs fs)) (length (differences 0 fs)) e))
-        (none-from _ _ (lone-none (runs fs) (runs-none fs (climbs-filled (negsuc 274943) ps (climbs ps (w .rises) (w .ranges)))))
-         (counts-none 0 0 fs (refusal-filled ps ∙ w .small)));
+          none-from _ _ (cond-true _ _ _ (eq-eqb (lengths (runs fs)) (length (differences 0 fs)) e))
+          (none-from _ _ (lone-none (runs fs) (runs-none fs (climbs-filled (negsuc 274943) ps (climbs ps (w .rises) (w .ranges)))))
+          (counts-none 0 0 fs (refusal-filled ps ∙ w .small)));
       pairs =
-        ap (λ is. nonzero (listing is (pos 0) (differences 0 fs))) (indices-runs fs)
-        ∙ ap nonzero (listing-back 0 fs)
-        ∙ unfilled ps (w .counts);
+          ap (λ is. nonzero (listing is (pos 0) (differences 0 fs))) (indices-runs fs)
+          ∙ ap nonzero (listing-back 0 fs)
+          ∙ unfilled ps (w .counts);
     }
 
 pub spans-tell : Spans-tell

@@ -172,7 +172,7 @@ module _ {next : ℤ} (low : negsuc 274943 ≤ℤ next) (ss : Spans) (k : ℕ) (
   span-refused f e =
       spans-step
       ∙ ap (λ o. either o (spans-refusal (k + 1) (next +ℤ here .0 +ℤ pos (here .1)) (drop (k + 1) ss)))
-        (ap (λ m. span-refusal m next here) (sym (number-is k few)) ∙ e)
+      (ap (λ m. span-refusal m next here) (sym (number-is k few)) ∙ e)
 
   module _ (after : ℤ) (p : Passes (toZ w64 k) next here after) where
     passed-none : span-refusal k next here ≡ None

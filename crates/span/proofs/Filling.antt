@@ -76,15 +76,15 @@ pub ahead-one : (ps : Pairs) (k : ℕ) (next : ℤ) (p : ℤ × ℕ) → pair-at
 ahead-one ps k next p e one =
     ap (filled-from next) (drop-pair ps k p e)
     ∙ rw (same-from (p .0) (next +ℤ pos 1) one)
-      (ap (λ xs. (next, 0) ∷ xs) (sym (ahead-pair ps k (next +ℤ pos 1) p e (λ f. omega (arith, ints)) (λ f. omega (arith, ints)))))
+    (ap (λ xs. (next, 0) ∷ xs) (sym (ahead-pair ps k (next +ℤ pos 1) p e (λ f. omega (arith, ints)) (λ f. omega (arith, ints)))))
 
 pub ahead-two : (ps : Pairs) (k : ℕ) (next : ℤ) (p : ℤ × ℕ) → pair-at ps k ≡ Some p → p .0 ≡ next +ℤ pos 2 → ahead ps k next ≡ (next, 0) ∷ ahead ps k (next +ℤ pos 1)
 ahead-two ps k next p e two =
     ap (filled-from next) (drop-pair ps k p e)
     ∙ rw (same-not (p .0) (next +ℤ pos 1) (λ f. omega (arith, ints)), same-from (p .0) (next +ℤ pos 2) two)
-      (ap (λ xs. (next, 0) ∷ xs)
-       (ap (λ xs. (next +ℤ pos 1, 0) ∷ xs) (sym (ahead-pair ps k (next +ℤ pos 1 +ℤ pos 1) p e (λ f. omega (arith, ints)) (λ f. omega (arith, ints))))
-        ∙ sym (ahead-one ps k (next +ℤ pos 1) p e (omega (arith, ints)))))
+    (ap (λ xs. (next, 0) ∷ xs)
+    (ap (λ xs. (next +ℤ pos 1, 0) ∷ xs) (sym (ahead-pair ps k (next +ℤ pos 1 +ℤ pos 1) p e (λ f. omega (arith, ints)) (λ f. omega (arith, ints))))
+    ∙ sym (ahead-one ps k (next +ℤ pos 1) p e (omega (arith, ints)))))
 
 -- the start
 pub ahead-start : (ps : Pairs) (p : ℤ × ℕ) → pair-at ps 0 ≡ Some p → ahead ps 0 (p .0) ≡ filled ps

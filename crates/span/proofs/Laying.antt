@@ -60,11 +60,12 @@ Way s next i ss ss′ count =
 module _ {ps ys rest rest′ : Pairs} {q : ℤ × ℕ} {next : ℤ} {s d : ℕ} (seen : Seen ps ys rest next s d) (e : rest ≡ q ∷ rest′) where
   pub seen-small : measure-refusal ps ≡ None → q .1 < 2 ^ 63
   seen-small n =
-      elim (cases-lt (q .1) (2 ^ 63))
-      [ inl h ↦ h
-      | inr h ↦
-        let t = too-large seen e (omega arith) in
-        absurd (let z : _≡_ {A = ℕ} 0 1 = cc in omega arith) ]
+      elim (cases-lt (q .1) (2 ^ 63)) [
+        | inl h ↦ h
+        | inr h ↦
+            let t = too-large seen e (omega arith) in
+            absurd (let z : _≡_ {A = ℕ} 0 1 = cc in omega arith)
+      ]
 
   pub seen-room : (m : ℕ) → length (spans ps) ≤ m → length (runs (ys ++ q ∷ [])) ≤ m
   seen-room m h =
@@ -85,7 +86,7 @@ module _ {ps ys rest rest′ : Pairs} {q : ℤ × ℕ} {next : ℤ} {s d : ℕ} 
   new-fits m apart h =
       let n = seen .of-spans in
       let other : (length (runs ys) ≡ 0) ⊎ (q .0 ≡ after-from (pos 0) ys → ⊥) =
-          elim apart [ inl z ↦ inl (sym n ∙ z) | inr z ↦ inr (λ k. z (k ∙ sym (seen .of-next))) ] in
+      elim apart [ inl z ↦ inl (sym n ∙ z) | inr z ↦ inr (λ k. z (k ∙ sym (seen .of-next))) ] in
       let long = seen-room m h in
       let one = ap length (runs-new ys q other) ∙ length-push (runs ys) (q .0 -ℤ after-from (pos 0) ys, 1) in
       omega arith
@@ -96,7 +97,7 @@ module _ {ps ys rest rest′ : Pairs} {q : ℤ × ℕ} {next : ℤ} {s d : ℕ} 
       let offset : ℤ = q .0 -ℤ next in
       let f : q .0 -ℤ next ≡ q .0 -ℤ after-from (pos 0) ys = ap (λ x. q .0 -ℤ x) (seen .of-next) in
       let other : (length (runs ys) ≡ 0) ⊎ (q .0 ≡ after-from (pos 0) ys → ⊥) =
-          elim apart [ inl z ↦ inl (sym n ∙ z) | inr z ↦ inr (λ k. z (k ∙ sym (seen .of-next))) ] in
+      elim apart [ inl z ↦ inl (sym n ∙ z) | inr z ↦ inr (λ k. z (k ∙ sym (seen .of-next))) ] in
       let long = new-fits (length ss) apart room in
       record {
         done = runs ys;

@@ -54,7 +54,7 @@ module _ {ps ys rest rest′ : Pairs} {q : ℤ × ℕ} {next : ℤ} {s d : ℕ} 
       let n = seen .of-spans in
       let m = seen .of-deltas in
       let other : (length (runs ys) ≡ 0) ⊎ (q .0 ≡ after-from (pos 0) ys → ⊥) =
-          elim apart [ inl z ↦ inl (sym n ∙ z) | inr z ↦ inr (λ k. z (k ∙ sym (seen .of-next))) ] in
+      elim apart [ inl z ↦ inl (sym n ∙ z) | inr z ↦ inr (λ k. z (k ∙ sym (seen .of-next))) ] in
       record {
         lists = lists-more;
         counts = counts-more h;

@@ -138,7 +138,7 @@ module _ (r : BucketReader) (k : reader-sound r) (d : ℤ) (ds : List ℤ) (some
   has-read =
       subst (λ i. Sound i (r .left - 1) (r .spans .now) read-count ds) next-is
       (subst (λ n. Sound (r .index +ℤ pos 1) (r .left - 1) (r .spans .now) n ds) count-is
-       (sound-next (r .index) (r .left) (r .spans .now) d ds (r .count) some reads))
+      (sound-next (r .index) (r .left) (r .spans .now) d ds (r .count) some reads))
 
   pub read-buckets : reader-buckets r ≡ (r .index, natAbs (r .count +ℤ d)) ∷ unread read-index (r .left - 1) (r .spans .now) read-count ds
   read-buckets =

@@ -53,7 +53,7 @@ abbrev pub span-refusal : ℕ → ℤ → ℤ × ℕ → Option (ℕ × ℤ)
 span-refusal k next s =
     cond (eqb (s .1) 0) (Some (12, pos k))
     (cond (ltb 0 k && ltZ (s .0) (pos 0)) (Some (13, pos k))
-     (cond (in-range (next +ℤ s .0) && in-range (next +ℤ s .0 +ℤ pos (s .1) -ℤ pos 1)) None (Some (14, pos k))))
+    (cond (in-range (next +ℤ s .0) && in-range (next +ℤ s .0 +ℤ pos (s .1) -ℤ pos 1)) None (Some (14, pos k))))
 
 -- the first of these from the span with number k on
 abbrev pub spans-refusal : ℕ → ℤ → Spans → Option (ℕ × ℤ)

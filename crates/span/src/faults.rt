@@ -44,9 +44,18 @@ pub impl fmt::Display for WriteFault as WriteFaultDisplay {
     fn fmt<W: fmt::Write>(&self, f: &mut fmt::Formatter<W>) -> fmt::Result {
         let number = self.number();
         match self {
-            WriteFault::LargeCount(index) => write!(f, "refusal {number}: index {index} has a count above 2^63 - 1"),
-            WriteFault::FewSpans => write!(f, "refusal {number}: the buffer for spans is too short"),
-            WriteFault::FewDeltas => write!(f, "refusal {number}: the buffer for deltas is too short"),
+            WriteFault::LargeCount(index) => write!(
+                f,
+                "refusal {number}: index {index} has a count above 2^63 - 1"
+            ),
+            WriteFault::FewSpans => write!(
+                f,
+                "refusal {number}: the buffer for spans is too short"
+            ),
+            WriteFault::FewDeltas => write!(
+                f,
+                "refusal {number}: the buffer for deltas is too short"
+            ),
         }
     }
 }
@@ -100,13 +109,25 @@ pub impl fmt::Display for SpanFault as SpanFaultDisplay {
         let number = self.number();
         match self {
             SpanFault::LengthSum(deltas) => {
-                write!(f, "refusal {number}: the span lengths do not sum to the number of deltas, {deltas}")
+                write!(
+                    f,
+                    "refusal {number}: the span lengths do not sum to the number of deltas, {deltas}"
+                )
             }
             SpanFault::EmptySpan(span) => write!(f, "refusal {number}: span {span} has length 0"),
-            SpanFault::BackwardSpan(span) => write!(f, "refusal {number}: span {span} has a negative offset"),
-            SpanFault::OutOfRange(span) => write!(f, "refusal {number}: span {span} reaches an index out of range"),
+            SpanFault::BackwardSpan(span) => write!(
+                f,
+                "refusal {number}: span {span} has a negative offset"
+            ),
+            SpanFault::OutOfRange(span) => write!(
+                f,
+                "refusal {number}: span {span} reaches an index out of range"
+            ),
             SpanFault::CountRange(delta) => {
-                write!(f, "refusal {number}: delta {delta} takes the count below 0 or above 2^63 - 1")
+                write!(
+                    f,
+                    "refusal {number}: delta {delta} takes the count below 0 or above 2^63 - 1"
+                )
             }
         }
     }

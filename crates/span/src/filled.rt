@@ -31,7 +31,11 @@ impl<'a, S: BucketStore> Filled<'a, S> {
             Some((index, _)) => index,
             None => 0,
         };
-        Filled { store, position: 0, next }
+        Filled {
+            store,
+            position: 0,
+            next,
+        }
     }
 }
 

@@ -19,7 +19,13 @@ impl<'a> NativeHistogramBuckets<'a> {
         check_lengths(self.spans, self.deltas)?;
         check_spans(self.spans)?;
         check_counts(self.deltas)?;
-        Ok(BucketReader { spans: self.spans, deltas: self.deltas, index: 0, left: 0, count: 0 })
+        Ok(BucketReader {
+            spans: self.spans,
+            deltas: self.deltas,
+            index: 0,
+            left: 0,
+            count: 0,
+        })
     }
 }
 

@@ -4,10 +4,16 @@ use crate::SpanFaultDebug;
 use std::test::*;
 
 const FAR_BACK: i64 = i64::MIN;
+
 const FAR_ON: i64 = i64::MAX;
 
 // Spans and deltas that the reader refuses with this number and place.
-fn refused<'x>(spans: &'x [(i32, u32)], deltas: &'x [i64], number: u8, place: i64) -> Result<(), Fail> {
+fn refused<'x>(
+    spans: &'x [(i32, u32)],
+    deltas: &'x [i64],
+    number: u8,
+    place: i64,
+) -> Result<(), Fail> {
     match (NativeHistogramBuckets { spans, deltas }).read() {
         Ok(_) => Err(Fail::new("nothing was refused")),
         Err(fault) => {
@@ -50,7 +56,12 @@ fn places() -> Result<(), Fail> {
     refused(&[(i32::MAX, 1), (-1, 1)], &[1, 1], 14, 0)?;
     refused(&[(262_145, 2)], &[1, 1], 14, 0)?;
     refused(&[(-274_945, 1)], &[1], 14, 0)?;
-    refused(&[(0, 1), (0, 1), (i32::MAX, 1)], &[FAR_ON, FAR_ON, 1], 14, 2)
+    refused(
+        &[(0, 1), (0, 1), (i32::MAX, 1)],
+        &[FAR_ON, FAR_ON, 1],
+        14,
+        2,
+    )
 }
 
 // 15, at the first delta after which the count is out of range.
@@ -70,6 +81,11 @@ fn reads_and_refuses() -> Result<(), Fail> {
     taken(&[], &[], 0, 0)?;
     taken(&[(0, 0)], &[], 0, 0)?;
     taken(&[(0, 5), (3, 1)], &[1, 1, -2, 0, 1, 2], 4, 7)?;
-    taken(&[(-274_944, 1), (537_088, 1)], &[FAR_ON, -FAR_ON], 1, 0x7fff_ffff_ffff_ffff)?;
+    taken(
+        &[(-274_944, 1), (537_088, 1)],
+        &[FAR_ON, -FAR_ON],
+        1,
+        0x7fff_ffff_ffff_ffff,
+    )?;
     taken(&[(262_145, 1)], &[0], 0, 0)
 }

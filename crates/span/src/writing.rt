@@ -42,7 +42,11 @@ pub fn measure<S: BucketStore>(store: &S) -> Result<Lengths, WriteFault>
 }
 
 // Writes the pairs of the store as spans and deltas to the start of two buffers.
-pub fn write<S: BucketStore>(store: &S, spans: &mut [(i32, u32)], deltas: &mut [i64]) -> Result<Lengths, WriteFault>
+pub fn write<S: BucketStore>(
+    store: &S,
+    spans: &mut [(i32, u32)],
+    deltas: &mut [i64],
+) -> Result<Lengths, WriteFault>
     ensures { λ r. ⌜ Written (S·BucketStore .pairs (now (store .entry))) r (now (spans .entry)) (now (deltas .entry)) (now (spans .exit)) (now (deltas .exit)) ⌝ }
 {
     let needed = measure(store)?;
@@ -70,7 +74,12 @@ fn fill<S: BucketStore>(store: &S, spans: &mut [(i32, u32)], deltas: &mut [i64])
             spans[span_count] = (index - next, 0);
             span_count += 1;
         }
-        append_delta(&mut spans[span_count - 1], &mut deltas[delta_count], &mut previous, count as i64);
+        append_delta(
+            &mut spans[span_count - 1],
+            &mut deltas[delta_count],
+            &mut previous,
+            count as i64,
+        );
         delta_count += 1;
         next = index + 1;
     }

@@ -24,11 +24,11 @@ above-list p q qs h r = (h, above-less (p .0) (q .0) qs (omega (arith, ints)) (r
 tail-counts : (p q : ℤ × ℕ) (ps qs : Pairs) → p .0 ≡ q .0 → Above (p .0) ps → Above (q .0) qs → ((i : ℤ) → count-at i (p ∷ ps) ≡ count-at i (q ∷ qs)) → (i : ℤ) → count-at i ps ≡ count-at i qs
 tail-counts p q ps qs e a b h i =
     elim (cases-index i (p .0)) [
-      inl l ↦ other (λ f. omega (arith, ints))
-    | inr (inl f) ↦
-      uncounted-above i ps (above-less i (p .0) ps (omega (arith, ints)) a) ∙
-      sym (uncounted-above i qs (above-less i (q .0) qs (omega (arith, ints)) b))
-    | inr (inr l) ↦ other (λ f. omega (arith, ints))
+      | inl l ↦ other (λ f. omega (arith, ints))
+      | inr (inl f) ↦
+          uncounted-above i ps (above-less i (p .0) ps (omega (arith, ints)) a) ∙
+          sym (uncounted-above i qs (above-less i (q .0) qs (omega (arith, ints)) b))
+      | inr (inr l) ↦ other (λ f. omega (arith, ints))
     ]
   where
     other : (i ≡ p .0 → ⊥) → count-at i ps ≡ count-at i qs
@@ -40,9 +40,9 @@ counts-tell [] (q ∷ qs) r s c d h = absurd (lower-first q qs [] tt d (sym (h (
 counts-tell (p ∷ ps) [] r s c d h = absurd (lower-first p ps [] tt c (h (p .0)))
 counts-tell (p ∷ ps) (q ∷ qs) r s c d h =
     elim (cases-index (p .0) (q .0)) [
-      inl l ↦ absurd (lower-first p ps (q ∷ qs) (above-list p q qs l s) c (h (p .0)))
-    | inr (inl e) ↦ joins e (counts-tell ps qs (rising-tail p ps r) (rising-tail q qs s) (counted-tail p ps c) (counted-tail q qs d) (tail-counts p q ps qs e (rising-above p ps r) (rising-above q qs s) h))
-    | inr (inr l) ↦ absurd (lower-first q qs (p ∷ ps) (above-list q p ps l r) d (sym (h (q .0))))
+      | inl l ↦ absurd (lower-first p ps (q ∷ qs) (above-list p q qs l s) c (h (p .0)))
+      | inr (inl e) ↦ joins e (counts-tell ps qs (rising-tail p ps r) (rising-tail q qs s) (counted-tail p ps c) (counted-tail q qs d) (tail-counts p q ps qs e (rising-above p ps r) (rising-above q qs s) h))
+      | inr (inr l) ↦ absurd (lower-first q qs (p ∷ ps) (above-list q p ps l r) d (sym (h (q .0))))
     ]
   where
     joins : p .0 ≡ q .0 → ps ≡ qs → p ∷ ps ≡ q ∷ qs

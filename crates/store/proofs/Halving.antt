@@ -133,7 +133,7 @@ means-halved ps m =
     record {
       rises = rising-halved ps (m .rises);
       counts = counted-halved ps (m .counts);
-      bounded = let b = m .bounded in omega (arith, total-halved ps)
+      bounded = let b = m .bounded in omega (arith, total-halved ps);
     }
 
 -- the halves that meet at i
@@ -141,12 +141,12 @@ pub same-halved : (i k : ℤ) → same i (halved k) ≡ (same (i +ℤ i -ℤ pos
 same-halved i k =
     let h = halves k in
     elim (cases-index k (i +ℤ i -ℤ pos 1)) [
-      inl l ↦ neither (λ e. omega (arith, ints)) (λ e. omega (arith, ints)) (λ e. omega (arith, ints))
-    | inr (inl e) ↦ same-from i (halved k) (omega (arith, ints)) ∙ sym (or-left (same (i +ℤ i -ℤ pos 1) k) (same (i +ℤ i) k) (same-from (i +ℤ i -ℤ pos 1) k (sym e)))
-    | inr (inr l) ↦ elim (cases-index k (i +ℤ i)) [
-        inl m ↦ neither (λ e. omega (arith, ints)) (λ e. omega (arith, ints)) (λ e. omega (arith, ints))
-      | inr (inl e) ↦ same-from i (halved k) (omega (arith, ints)) ∙ sym (or-right (same (i +ℤ i -ℤ pos 1) k) (same (i +ℤ i) k) (same-from (i +ℤ i) k (sym e)))
-      | inr (inr m) ↦ neither (λ e. omega (arith, ints)) (λ e. omega (arith, ints)) (λ e. omega (arith, ints))
+      | inl l ↦ neither (λ e. omega (arith, ints)) (λ e. omega (arith, ints)) (λ e. omega (arith, ints))
+      | inr (inl e) ↦ same-from i (halved k) (omega (arith, ints)) ∙ sym (or-left (same (i +ℤ i -ℤ pos 1) k) (same (i +ℤ i) k) (same-from (i +ℤ i -ℤ pos 1) k (sym e)))
+      | inr (inr l) ↦ elim (cases-index k (i +ℤ i)) [
+        | inl m ↦ neither (λ e. omega (arith, ints)) (λ e. omega (arith, ints)) (λ e. omega (arith, ints))
+        | inr (inl e) ↦ same-from i (halved k) (omega (arith, ints)) ∙ sym (or-right (same (i +ℤ i -ℤ pos 1) k) (same (i +ℤ i) k) (same-from (i +ℤ i) k (sym e)))
+        | inr (inr m) ↦ neither (λ e. omega (arith, ints)) (λ e. omega (arith, ints)) (λ e. omega (arith, ints))
       ]
     ]
   where
@@ -199,5 +199,5 @@ halving ps r =
       sum = total-halved ps;
       lists = λ i. listed-halved i ps;
       means = means-halved ps;
-      shorter = length-halved ps
+      shorter = length-halved ps;
     }

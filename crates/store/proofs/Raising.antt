@@ -32,9 +32,9 @@ raised-after i p ps h =
 pub by-raised : (P : Pairs → Type 0) (i : ℤ) (p : ℤ × ℕ) (ps : Pairs) → (i <ℤ p .0 → P ((i, 1) ∷ p ∷ ps)) → (i ≡ p .0 → P ((p .0, p .1 + 1) ∷ ps)) → (p .0 <ℤ i → P (p ∷ raised i ps)) → P (raised i (p ∷ ps))
 by-raised P i p ps before here after =
     elim (cases-index i (p .0)) [
-      inl h ↦ subst P (sym (raised-before i p ps h)) (before h)
-    | inr (inl e) ↦ subst P (sym (raised-here i p ps e)) (here e)
-    | inr (inr h) ↦ subst P (sym (raised-after i p ps h)) (after h)
+      | inl h ↦ subst P (sym (raised-before i p ps h)) (before h)
+      | inr (inl e) ↦ subst P (sym (raised-here i p ps e)) (here e)
+      | inr (inr h) ↦ subst P (sym (raised-after i p ps h)) (after h)
     ]
 
 pub total-raised : (i : ℤ) (ps : Pairs) → total (raised i ps) ≡ total ps + 1
@@ -74,7 +74,7 @@ means-raised i ps h m =
     record {
       rises = rising-raised i ps (m .rises);
       counts = counted-raised i ps (m .counts);
-      bounded = omega (arith, total-raised i ps)
+      bounded = omega (arith, total-raised i ps);
     }
 
 pub listed-raised : (j i : ℤ) (ps : Pairs) → listed j (raised i ps) ≡ (same j i || listed j ps)
@@ -108,7 +108,7 @@ raising i ps r =
       others = λ j n. count-raised-other j i ps n;
       sum = total-raised i ps;
       lists = λ j. listed-raised j i ps;
-      means = λ m h. means-raised i ps h m
+      means = λ m h. means-raised i ps h m;
     }
 
 -- raising in a list of two parts
@@ -121,9 +121,9 @@ raised-left i [] [] l = refl
 raised-left i [] (y ∷ ys) l = raised-before i y ys (record { lt = l })
 raised-left i (x ∷ xs) ys l =
     elim (cases-index i (x .0)) [
-      inl h ↦ raised-before i x (xs ++ ys) h ∙ ap (λ t. t ++ ys) (sym (raised-before i x xs h))
-    | inr (inl e) ↦ raised-here i x (xs ++ ys) e ∙ ap (λ t. t ++ ys) (sym (raised-here i x xs e))
-    | inr (inr h) ↦ raised-after i x (xs ++ ys) h ∙ ap (λ t. x ∷ t) (raised-left i xs ys l) ∙ ap (λ t. t ++ ys) (sym (raised-after i x xs h))
+      | inl h ↦ raised-before i x (xs ++ ys) h ∙ ap (λ t. t ++ ys) (sym (raised-before i x xs h))
+      | inr (inl e) ↦ raised-here i x (xs ++ ys) e ∙ ap (λ t. t ++ ys) (sym (raised-here i x xs e))
+      | inr (inr h) ↦ raised-after i x (xs ++ ys) h ∙ ap (λ t. x ∷ t) (raised-left i xs ys l) ∙ ap (λ t. t ++ ys) (sym (raised-after i x xs h))
     ]
 
 -- i put in between, and the count of a listed i

@@ -19,8 +19,8 @@ pub from-listed : (i j : ℤ) (ps : Pairs) → From i ps → T (listed j ps) →
 from-listed i j [] f t = absurd t
 from-listed i j (p ∷ ps) f t =
     elim (or-cases (same j (p .0)) (listed j ps) (T-true (listed j (p ∷ ps)) t)) [
-      inl e ↦ let k = same-true j (p .0) e in let g = f .0 in omega (arith, ints)
-    | inr e ↦ from-listed i j ps (f .1) (true-T (listed j ps) e)
+      | inl e ↦ let k = same-true j (p .0) e in let g = f .0 in omega (arith, ints)
+      | inr e ↦ from-listed i j ps (f .1) (true-T (listed j ps) e)
     ]
 
 pub means-taken : (ps : Pairs) → Means ps → Means (without-lowest ps)
@@ -29,7 +29,7 @@ means-taken (p ∷ ps) m =
     record {
       rises = rising-tail p ps (m .rises);
       counts = counted-tail p ps (m .counts);
-      bounded = let b = m .bounded in omega arith
+      bounded = let b = m .bounded in omega arith;
     }
 
 taken-first : (p : ℤ × ℕ) (ps : Pairs) → T (rising (p ∷ ps)) → Taken p (p ∷ ps)
@@ -41,7 +41,7 @@ taken-first p ps r =
       gone = uncounted-above (p .0) ps a;
       others = λ i n. sym (count-other i p ps n);
       sum = refl;
-      means = λ m. means-taken (p ∷ ps) m
+      means = λ m. means-taken (p ∷ ps) m;
     }
 
 pub taking : Taking

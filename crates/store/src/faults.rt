@@ -44,9 +44,15 @@ pub impl fmt::Display for StoreFault as StoreFaultDisplay {
     fn fmt<W: fmt::Write>(&self, f: &mut fmt::Formatter<W>) -> fmt::Result {
         let number = self.number();
         match self {
-            StoreFault::OutOfRange(index) => write!(f, "refusal {number}: index {index} is out of range"),
+            StoreFault::OutOfRange(index) => write!(
+                f,
+                "refusal {number}: index {index} is out of range"
+            ),
             StoreFault::Full => write!(f, "refusal {number}: the store's total is 2^64 - 1"),
-            StoreFault::NoRoom(index) => write!(f, "refusal {number}: the store has no room for index {index}"),
+            StoreFault::NoRoom(index) => write!(
+                f,
+                "refusal {number}: the store has no room for index {index}"
+            ),
         }
     }
 }

@@ -41,7 +41,12 @@ fn try_run(trial: &mut Trial<Run>) -> Result<(), Trouble> {
 }
 
 // Prints how a trial went, and answers whether it went well.
-fn report<S: BucketStore>(rt: &LibcRuntime, name: &str, trial: &Trial<S>, result: Result<(), Trouble>) -> io::Result<bool> {
+fn report<S: BucketStore>(
+    rt: &LibcRuntime,
+    name: &str,
+    trial: &Trial<S>,
+    result: Result<(), Trouble>,
+) -> io::Result<bool> {
     let tally = trial.tally;
     let calls = tally.calls;
     let accepted = tally.accepted;
@@ -49,7 +54,10 @@ fn report<S: BucketStore>(rt: &LibcRuntime, name: &str, trial: &Trial<S>, result
     let full = tally.full;
     let no_room = tally.no_room;
     let out_of_range = tally.out_of_range;
-    println!(rt, "{name}: refusal 6 {full} times, 7 {no_room} times, 8 {out_of_range} times")?;
+    println!(
+        rt,
+        "{name}: refusal 6 {full} times, 7 {no_room} times, 8 {out_of_range} times"
+    )?;
     let size = trial.size();
     println!(rt, "{name}: size {size} at the end")?;
     match result {

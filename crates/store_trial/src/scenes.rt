@@ -148,7 +148,10 @@ fn reach<S: BucketStore>(trial: &mut Trial<S>, index: i32) -> Result<(), Trouble
     trial.expect(Call::Add(index.saturating_add(511)), Answer::Done)?;
     turned_away(trial, index.saturating_sub(1))?;
     trial.expect(Call::Add(index.saturating_add(1)), Answer::Done)?;
-    trial.expect(Call::Pair(2), Answer::Pair(Some((index.saturating_add(511), 1))))?;
+    trial.expect(
+        Call::Pair(2),
+        Answer::Pair(Some((index.saturating_add(511), 1))),
+    )?;
     trial.expect(Call::TakeLowest, Answer::Pair(Some((index, 1))))?;
     trial.expect(Call::Add(index.saturating_add(512)), Answer::Done)?;
     trial.compare_all()
@@ -188,7 +191,12 @@ fn random_call(random: &mut Random, lowest: i32, width: u32) -> Call
 }
 
 // Random calls with indices among `width` from the lowest on; now and then all that is listed is compared.
-pub fn random_calls<S: BucketStore>(trial: &mut Trial<S>, seed: u64, lowest: i32, width: u32) -> Result<(), Trouble>
+pub fn random_calls<S: BucketStore>(
+    trial: &mut Trial<S>,
+    seed: u64,
+    lowest: i32,
+    width: u32,
+) -> Result<(), Trouble>
     requires some { ⌜ 0 < width ⌝ }
     requires few { ⌜ width ≤ 2 ^ 31 ⌝ }
 {

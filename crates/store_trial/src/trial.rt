@@ -30,7 +30,10 @@ pub impl fmt::Display for Trouble as TroubleDisplay {
         match self {
             Trouble::Memory => write!(f, "no memory"),
             Trouble::Differs(number, call, answer, expected) => {
-                write!(f, "call {number}, {call:?}, answers {answer:?} and not {expected:?}")
+                write!(
+                    f,
+                    "call {number}, {call:?}, answers {answer:?} and not {expected:?}"
+                )
             }
         }
     }

@@ -15,7 +15,7 @@ indices = record {
   wide-lowest = refl;
   fine-highest = refl;
   fine-infinity = refl;
-  fine-lowest = refl
+  fine-lowest = refl;
 }
 
 pub returns : need.returns

@@ -32,7 +32,7 @@ some v f x h g p q r = record {
   value = λ i. (p i, q i);
   splits = λ _. subst (λ (y : Float). Splits v y x) (sym p) (subst (λ (y : ℤ). Splits v (fraction v) y) (sym q) (splits v h g));
   range = r;
-  nothing = λ n. absurd (T-not (finite-nonzero v) n g)
+  nothing = λ n. absurd (T-not (finite-nonzero v) n g);
 }
 
 pub returns-then-not-is-finite : need.returns-then-not-is-finite

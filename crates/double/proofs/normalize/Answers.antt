@@ -36,5 +36,5 @@ pub returns : need.returns
 returns c = record {
   fraction = ap (λ (x : ℕ). ofBits binary64 (1021 * 2 ^ 52 + x)) (shifted (c .args .mantissa) (c .pre .nonzero) (c .pre .digits));
   digits = digits (c .args .mantissa) (c .pre .nonzero) (c .pre .digits);
-  small = omega (arith, digits (c .args .mantissa) (c .pre .nonzero) (c .pre .digits), size-le (c .args .mantissa) 53 (c .pre .digits))
+  small = omega (arith, digits (c .args .mantissa) (c .pre .nonzero) (c .pre .digits), size-le (c .args .mantissa) 53 (c .pre .digits));
 }

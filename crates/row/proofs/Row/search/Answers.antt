@@ -33,9 +33,10 @@ more : (x i : ℤ) → SFits w32 x → SFits w32 i → (ofZ w32 x ≡ ofZ w32 i 
 more x i f g n t =
     let j : ℤ = toZ w32 (ofZ w32 i) in
     let t′ = subst (λ z. ltZ z j ≡ false) (toZ-ofZ w32 x f) t in
-    elim (cases-index x j)
-    [ inl l ↦ absurd (both-ways (ltZ x j) t′ (below-ltZ x j l))
-    | inr m ↦ elim m [ inl e ↦ absurd (n (ap (ofZ w32) (e ∙ toZ-ofZ w32 i g))) | inr l ↦ l ] ]
+    elim (cases-index x j) [
+      | inl l ↦ absurd (both-ways (ltZ x j) t′ (below-ltZ x j l))
+      | inr m ↦ elim m [ inl e ↦ absurd (n (ap (ofZ w32) (e ∙ toZ-ofZ w32 i g))) | inr l ↦ l ]
+    ]
 
 pub returns-then-here-index : need.returns-then-here-index
 returns-then-here-index c =
@@ -43,7 +44,7 @@ returns-then-here-index c =
     let k : ℕ = c .loop-low .low + (c .loop-low .high - c .loop-low .low) / 2 in
     let f : SFits w32 (getD xs k (pos 0, 0) .0) = search needs in
     let e : getD xs k (pos 0, 0) .0 ≡ c .args .index =
-        sym (toZ-ofZ w32 _ f) ∙ ap (toZ w32) (c .if-here-index .taken) ∙ toZ-ofZ w32 _ (c .fits .index) in
+    sym (toZ-ofZ w32 _ f) ∙ ap (toZ w32) (c .if-here-index .taken) ∙ toZ-ofZ w32 _ (c .fits .index) in
     sought-listed _ _ k (front-at (c .args .index) xs (c .args .self .now .size) k (pos 0, 0) (c .args .self .now .rises) (omega arith) (omega arith) e)
 
 pub loop-low-again-then-here-index-2 : need.loop-low-again-then-here-index-2
@@ -63,6 +64,6 @@ loop-low-again c =
     let i : ℤ = toZ w32 (ofZ w32 (c .args .index)) in
     let f : SFits w32 (getD xs k (pos 0, 0) .0) = search needs in
     let l : i <ℤ getD xs k (pos 0, 0) .0 =
-        more _ (c .args .index) f (c .fits .index) (c .if-here-index .left) (c .if-here-index-2 .left) in
+    more _ (c .args .index) f (c .fits .index) (c .if-here-index .left) (c .if-here-index-2 .left) in
     let p = front-before i xs (c .args .self .now .size) k (pos 0, 0) (c .args .self .now .rises) (omega arith) (omega arith) l in
     (c .loop-low .inv .0, p .upto, omega arith, p .if-listed)

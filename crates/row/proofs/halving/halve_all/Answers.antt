@@ -33,12 +33,11 @@ loop-k-again c =
     let f : SFits w32 (getD ys (c .loop-k .k) (pos 0, 0) .0) = search needs in
     let g : SFits w32 (c .coarser-index .result) = search needs in
     let half : toZ w32 (ofZ w32 (c .coarser-index .result)) ≡ halved (getD ys (c .loop-k .k) (pos 0, 0) .0) =
-        toZ-ofZ w32 _ g ∙ c .coarser-index .ensures .value ∙ ap halved (toZ-ofZ w32 _ f) in
-    (
+    toZ-ofZ w32 _ g ∙ c .coarser-index .ensures .value ∙ ap halved (toZ-ofZ w32 _ f) in (
       omega arith,
       c .join-last-used .ensures .joins
-      ∙ ap (λ i. joined-last (take (c .loop-k .used) ys) (i, getD ys k (pos 0, 0) .1)) half
-      ∙ halved-step xs ys k (c .loop-k .used) (pos 0, 0) (omega arith) (c .loop-k .inv .1) (drop-first ys xs k (pos 0, 0) (c .loop-k .inv .2)),
+          ∙ ap (λ i. joined-last (take (c .loop-k .used) ys) (i, getD ys k (pos 0, 0) .1)) half
+          ∙ halved-step xs ys k (c .loop-k .used) (pos 0, 0) (omega arith) (c .loop-k .inv .1) (drop-first ys xs k (pos 0, 0) (c .loop-k .inv .2)),
       drop-further (c .join-last-used .last .table) ys (c .loop-k .used + 1) (k + 1) (omega arith) (c .join-last-used .ensures .beyond)
-      ∙ drop-further ys xs k (k + 1) (omega arith) (c .loop-k .inv .2)
+          ∙ drop-further ys xs k (k + 1) (omega arith) (c .loop-k .inv .2),
     )

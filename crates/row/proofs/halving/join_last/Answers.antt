@@ -27,11 +27,11 @@ returns-then-table-used c =
     let f : SFits w32 (getD t (c .args .used - 1) (pos 0, 0) .0) = search needs in
     let g : SFits w32 (c .args .pair .0) = search needs in
     let e : getD t (c .args .used - 1) (pos 0, 0) .0 ≡ c .args .pair .0 =
-        sym (toZ-ofZ w32 _ f) ∙ ap (toZ w32) (c .if-table-used .taken) ∙ toZ-ofZ w32 _ g in
+    sym (toZ-ofZ w32 _ f) ∙ ap (toZ w32) (c .if-table-used .taken) ∙ toZ-ofZ w32 _ g in
     record {
       within = omega arith;
       joins = join-meets t n (c .args .pair) (pos 0, 0) (omega arith) (omega arith) e;
-      beyond = drop-set-lt (n + 1) t (n - 1) _ (omega arith)
+      beyond = drop-set-lt (n + 1) t (n - 1) _ (omega arith);
     }
 
 pub returns : need.returns
@@ -42,8 +42,8 @@ returns c =
       within = omega arith;
       joins = join-apart t n (c .args .pair) (pos 0, 0) (omega arith) (omega arith) (
           elim (c .else-used-gt0 .came) [
-            else-used-gt0·by·then-used-gt0·else-table-used w ↦ λ h e. w .if-table-used .left (ap (ofZ w32) e)
-          | else-used-gt0·by·else-used-gt0 w ↦ λ h e. omega arith
+            | else-used-gt0·by·then-used-gt0·else-table-used w ↦ λ h e. w .if-table-used .left (ap (ofZ w32) e)
+            | else-used-gt0·by·else-used-gt0 w ↦ λ h e. omega arith
           ]);
-      beyond = drop-set-lt (n + 1) t n _ (omega arith)
+      beyond = drop-set-lt (n + 1) t n _ (omega arith);
     }

@@ -58,5 +58,5 @@ returns c =
       octave =
           toZ-ofZ w32 (c .div-euclid .result) fq ∙ c .div-euclid .ensures ∙ ap₂ divEuclid (toZ-ofZ w32 i fi) (toZ-pos w32 (length (c .entries .result .now)) (small _ few)) ∙ quotient-is i (length (c .entries .result .now)) ∙ ap (λ (d : ℕ). quotient d i) e;
       place =
-          ap natAbs (toZ-ofZ w32 (c .rem-euclid .result) fr ∙ c .rem-euclid .ensures .value ∙ ap₂ remEuclid (toZ-ofZ w32 i fi) (toZ-pos w32 (length (c .entries .result .now)) (small _ few))) ∙ remainder-is i (length (c .entries .result .now)) ∙ ap (λ (d : ℕ). remainder d i) e
+          ap natAbs (toZ-ofZ w32 (c .rem-euclid .result) fr ∙ c .rem-euclid .ensures .value ∙ ap₂ remEuclid (toZ-ofZ w32 i fi) (toZ-pos w32 (length (c .entries .result .now)) (small _ few))) ∙ remainder-is i (length (c .entries .result .now)) ∙ ap (λ (d : ℕ). remainder d i) e;
     }

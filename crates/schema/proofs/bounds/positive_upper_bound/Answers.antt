@@ -28,7 +28,7 @@ returns-then-schema-ge0 c =
     record { value = m .value; largest = m .largest; rises = m .rises }
 
 pub returns-else-schema-ge0 : need.returns-else-schema-ge0
-returns-else-schema-ge0 c = 
+returns-else-schema-ge0 c =
     let fi : SFits w32 (c .args .index) = search needs in
     let fs : SFits w8 (c .args .schema .value) = search needs in
     let m = met (c .args .schema .value) (c .args .index) (c .power-bound .result) (c .args .schema .known) (c .power-bound .ensures ∙ ap₂ bound (wide (c .args .schema .value) (c .args .schema .known) (c .if-schema-ge0 .left)) (toZ-ofZ w32 (c .args .index) fi)) in

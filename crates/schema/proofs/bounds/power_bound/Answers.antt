@@ -28,6 +28,7 @@ product i f g w d fi ef l ew eg =
   where
     left : (i f : ℤ) → SFits w32 i → f ≡ toZ w32 (ofZ w32 i) → toZ w64 (ofZ w64 f) ≡ i
     left i f h e = omega (arith, ints)
+
     right : (g w : ℤ) (d : ℕ) → d ≤ 16 → w ≡ pos d → g ≡ toZ w32 (ofZ w32 w) → toZ w64 (ofZ w64 g) ≡ pos d
     right g w d l e k = omega (arith, ints)
 

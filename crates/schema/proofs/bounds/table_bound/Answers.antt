@@ -35,7 +35,7 @@ scale-requires c κs =
       low = le-trans (e .0) (le-of-eq (sym (c .mantissa .ensures)));
       high = lt-of-le-of-lt (le-of-eq (c .mantissa .ensures)) (e .1);
       least = l .0;
-      most = l .1
+      most = l .1;
     }
 
 pub returns : need.returns

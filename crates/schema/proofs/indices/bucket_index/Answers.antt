@@ -33,7 +33,7 @@ found : (s : ℤ) (v : Float) (i : ℤ) → T (is-schema s) → T (fits binary64
 found s v i h f n e = record {
   value = ap Some e ∙ ap (λ (b : Bool). cond b (Some (index s v)) None) (sym n);
   bucket = (passes (nonzero v) n, subst (Only-bucket s v) (sym e) (only-bucket s v h f (passes (nonzero v) n)));
-  range = subst (Ranged s) (sym e) (index-ranged s v h f (passes (nonzero v) n))
+  range = subst (Ranged s) (sym e) (index-ranged s v h f (passes (nonzero v) n));
 }
 
 record Missed (s : ℤ) (v : Float) : Type 0 where
@@ -90,10 +90,10 @@ same-back z l h = omega (arith, ints)
 pub returns-then-is-nan : need.returns-then-is-nan
 returns-then-is-nan c =
     let m = missed (c .args .schema .value) (c .args .v)
-        (elim (c .then-is-nan .came) [
-          | then-is-nan·by·then-is-nan w ↦ nan-missed (c .args .v) (sym (w .if-is-nan .ensures tt .value))
-          | then-is-nan·by·else-is-nan·then-v w ↦ zero-missed (c .args .v) (sym (w .if-is-nan .ensures tt .value)) (w .if-v .taken)
-        ]) in
+    (elim (c .then-is-nan .came) [
+      | then-is-nan·by·then-is-nan w ↦ nan-missed (c .args .v) (sym (w .if-is-nan .ensures tt .value))
+      | then-is-nan·by·else-is-nan·then-v w ↦ zero-missed (c .args .v) (sym (w .if-is-nan .ensures tt .value)) (w .if-v .taken)
+    ]) in
     record { value = m .value; bucket = m .bucket; range = tt }
 
 pub finite-index-requires : need.finite-index-requires

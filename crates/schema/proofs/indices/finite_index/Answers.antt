@@ -53,5 +53,5 @@ returns c =
       value =
           q ∙ ap (λ (z : ℤ). quotient (2 ^ n) (z +ℤ pos (2 ^ n - 1))) (c .table-index-2 .ensures .value)
           ∙ sym (finite-wide n (c .args .v) (r .0)) ∙ ap (λ (z : ℤ). finite-index z (c .args .v)) (wide (c .args .schema .value) (c .args .schema .known) (c .if-schema-ge0 .left));
-      range = (subst (λ (z : ℤ). negsuc 275199 ≤ℤ z) (sym q) (b .0), subst (λ (z : ℤ). z ≤ℤ pos 262159) (sym q) (b .1))
+      range = (subst (λ (z : ℤ). negsuc 275199 ≤ℤ z) (sym q) (b .0), subst (λ (z : ℤ). z ≤ℤ pos 262159) (sym q) (b .1));
     }

@@ -54,6 +54,7 @@ octave e d l h g = ap₂ _*ℤ_ before (few d g)
   where
     before : toZ w32 (ofZ w32 (toZ w32 (ofZ w32 e) -ℤ pos 1)) ≡ e -ℤ pos 1
     before = omega (arith, ints)
+
     few : (d : ℕ) → d ≤ 256 → toZ w32 d ≡ pos d
     few d g = omega (arith, ints)
 
@@ -110,5 +111,5 @@ returns c =
           ∙ ap (λ (n : ℕ). (exponent (c .args .v) -ℤ pos 1) *ℤ pos (2 ^ c .args .a) +ℤ pos n)
           (sym (narrowed-count (c .args .a) (c .pre .known) f (numerator f) (c .loop-low .low) (c .loop-low .high) (normal-own (c .args .v) f (ap (λ (p : Float × ℤ). p .0) (c .frexp-fraction .ensures .value)) (passes _ (c .good .1 .0 .1)) (c .pre .finite)) (c .loop-low .inv) (omega arith))
           ∙ ap (λ (x : Float). entries-below x (table (c .args .a))) (ap (λ (p : Float × ℤ). p .0) (c .frexp-fraction .ensures .value)));
-      range = sum-range _ _ _ _ _ o s
+      range = sum-range _ _ _ _ _ o s;
     }

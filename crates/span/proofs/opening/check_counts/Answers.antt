@@ -35,16 +35,17 @@ loop-number-again c =
     let n : ℕ = c .loop-number .number in
     let f : SFits w64 (getD (c .args .deltas .now) (c .loop-number .number) (pos 0)) = search needs in
     let e = sum-is _ (getD ds n (pos 0)) (c .loop-number .inv .1) (c .loop-number .inv .2) f in
-    let t = sym (c .is-count .ensures) ∙ c .if-not-is-count .left in
-    (ap (λ z. counts-refusal (n + 1) z (drop (n + 1) ds)) e
-     ∙ sym (cond-true _ _ _ (ap countable (sym e) ∙ t))
-     ∙ sym (counts-step ds n _ (pos 0) (c .loop-number-test .taken))
-     ∙ c .loop-number .inv .0,
-     count-low _ t,
-     count-high _ t)
+    let t = sym (c .is-count .ensures) ∙ c .if-not-is-count .left in (
+      ap (λ z. counts-refusal (n + 1) z (drop (n + 1) ds)) e
+          ∙ sym (cond-true _ _ _ (ap countable (sym e) ∙ t))
+          ∙ sym (counts-step ds n _ (pos 0) (c .loop-number-test .taken))
+          ∙ c .loop-number .inv .0,
+      count-low _ t,
+      count-high _ t,
+    )
 
 pub returns : need.returns
 returns c =
     sym
     (sym (c .loop-number .inv .0)
-     ∙ at-drop-all (counts-refusal (c .loop-number .number) _) (c .args .deltas .now) (c .loop-number .number) (c .loop-number-test .left))
+    ∙ at-drop-all (counts-refusal (c .loop-number .number) _) (c .args .deltas .now) (c .loop-number .number) (c .loop-number-test .left))

@@ -19,7 +19,7 @@ loop-span-again c =
     let i : ℕ = c .loop-span .span-index in
     let f : Fits w32 (getD (c .args .spans .now) (c .loop-span .span-index) (pos 0, 0) .1) = search needs in
     let e : lengths (drop (c .loop-span .span-index) (c .args .spans .now)) ≡ getD (c .args .spans .now) (c .loop-span .span-index) (pos 0, 0) .1 + lengths (drop (c .loop-span .span-index + 1) (c .args .spans .now)) =
-        at-drop-more lengths xs i (pos 0, 0) (c .loop-span-test .taken) in
+    at-drop-more lengths xs i (pos 0, 0) (c .loop-span-test .taken) in
     (omega arith, omega arith)
 
 pub returns-then-sum-deltas : need.returns-then-sum-deltas

@@ -14,9 +14,9 @@ returns-in-Break-next c =
     let p = err-from-errBy (c .from-residual .result) (c .from-residual .ensures .1) in
     rw (p .1, p .2)
     (sym
-     (cond-false _ _ _ (sym (c .if-is-lone .ensures tt))
-      ∙ sym (c .loop-number .inv .0)
-      ∙ span-refused (c .loop-number .inv .1) (c .args .spans .now) (c .loop-number .number) (pos 0, 0) (c .loop-number-test .taken) (omega arith) _ (c .in-Break-next .ensures tt)))
+    (cond-false _ _ _ (sym (c .if-is-lone .ensures tt))
+    ∙ sym (c .loop-number .inv .0)
+    ∙ span-refused (c .loop-number .inv .1) (c .args .spans .now) (c .loop-number .number) (pos 0, 0) (c .loop-number-test .taken) (omega arith) _ (c .in-Break-next .ensures tt)))
 
 pub loop-number-again : need.loop-number-again
 loop-number-again c =
@@ -24,14 +24,15 @@ loop-number-again c =
     let n : ℕ = c .loop-number .number in
     let low = c .loop-number .inv .1 in
     let within = c .loop-number-test .taken in
-    let p = c .in-Continue-next .ensures tt in
-    (span-passed low ss n (pos 0, 0) within (omega arith) _ p ∙ c .loop-number .inv .0,
-     passed-low low ss n (pos 0, 0) within (omega arith) _ p,
-     passed-high low ss n (pos 0, 0) within (omega arith) _ p)
+    let p = c .in-Continue-next .ensures tt in (
+      span-passed low ss n (pos 0, 0) within (omega arith) _ p ∙ c .loop-number .inv .0,
+      passed-low low ss n (pos 0, 0) within (omega arith) _ p,
+      passed-high low ss n (pos 0, 0) within (omega arith) _ p,
+    )
 
 pub returns : need.returns
 returns c =
     sym
     (cond-false _ _ _ (sym (c .if-is-lone .ensures tt))
-     ∙ sym (c .loop-number .inv .0)
-     ∙ at-drop-all (spans-refusal (c .loop-number .number) _) (c .args .spans .now) (c .loop-number .number) (c .loop-number-test .left))
+    ∙ sym (c .loop-number .inv .0)
+    ∙ at-drop-all (spans-refusal (c .loop-number .number) _) (c .args .spans .now) (c .loop-number .number) (c .loop-number-test .left))

@@ -19,10 +19,11 @@ use Rattle.span.proofs.writing.fill.Needs as need
 use Rattle.span.proofs.writing.fill.Needs.{then-span-count-eq0, else-span-count-eq0·else-index-next}
 
 pub loop-index-holds : need.loop-index-holds
-loop-index-holds g c =
-    (seen-none (g .S·BucketStore .pairs (c .args .store .now)) _
-     (ap (λ f. ahead (g .S·BucketStore .pairs (f .store .now)) (f .position) (f .next)) (c .into-iter-index-iterator .ensures .becomes) ∙ c .new-index-items .ensures),
-     record { of-spans = refl; of-deltas = refl; before = refl })
+loop-index-holds g c = (
+  seen-none (g .S·BucketStore .pairs (c .args .store .now)) _
+      (ap (λ f. ahead (g .S·BucketStore .pairs (f .store .now)) (f .position) (f .next)) (c .into-iter-index-iterator .ensures .becomes) ∙ c .new-index-items .ensures),
+  record { of-spans = refl; of-deltas = refl; before = refl },
+)
 
 pub sub-spans : need.sub-spans
 sub-spans g c =
@@ -77,13 +78,16 @@ index-spans-span-count-in-loop-index g c =
     let r = ready (g .S·BucketStore .pairs (c .args .store .now)) (length (c .args .spans .now)) (length (c .args .deltas .now)) (c .pre) in
     let p = seen-place s e (met .means (c .args .store .now) .rises) (met .«in_range» (c .args .store .now)) in
     let way : Way (c .loop-index .span-count) _ (c .in-Some .index) (c .loop-index .spans) (c .if-span-count-eq0 .spans) (c .if-span-count-eq0 .span-count) =
-        elim (c .if-span-count-eq0 .came)
-        [ then-span-count-eq0 w ↦
-          inl (apart (c .in-Some .index) _ (c .loop-index .kept .next) refl (w .then-span-count-eq0 .either),
-               w .spans-is ∙ ap (λ z. set (c .loop-index .spans) (c .loop-index .span-count) (z, 0)) (gap-is p (s .of-next)),
-               w .span-count-is)
-        | else-span-count-eq0·else-index-next w ↦
-          inr (w .if-span-count-eq0 .left, agree (c .in-Some .index) _ (index-is p) refl (w .if-index-next .left), w .spans-is, w .span-count-is) ] in
+    elim (c .if-span-count-eq0 .came) [
+      | then-span-count-eq0 w ↦
+          inl (
+            apart (c .in-Some .index) _ (c .loop-index .kept .next) refl (w .then-span-count-eq0 .either),
+            w .spans-is ∙ ap (λ z. set (c .loop-index .spans) (c .loop-index .span-count) (z, 0)) (gap-is p (s .of-next)),
+            w .span-count-is,
+          )
+      | else-span-count-eq0·else-index-next w ↦
+          inr (w .if-span-count-eq0 .left, agree (c .in-Some .index) _ (index-is p) refl (w .if-index-next .left), w .spans-is, w .span-count-is)
+    ] in
     let o = opens s e (r .of-spans) (c .loop-index .inv .1 .of-spans) way in
     let l = open-length o in
     let m = seen-room s e (length (c .args .spans .now)) (r .of-spans) in
@@ -98,13 +102,16 @@ offset-spans-span-count-in-loop-index g c =
     let r = ready (g .S·BucketStore .pairs (c .args .store .now)) (length (c .args .spans .now)) (length (c .args .deltas .now)) (c .pre) in
     let p = seen-place s e (met .means (c .args .store .now) .rises) (met .«in_range» (c .args .store .now)) in
     let way : Way (c .loop-index .span-count) _ (c .in-Some .index) (c .loop-index .spans) (c .if-span-count-eq0 .spans) (c .if-span-count-eq0 .span-count) =
-        elim (c .if-span-count-eq0 .came)
-        [ then-span-count-eq0 w ↦
-          inl (apart (c .in-Some .index) _ (c .loop-index .kept .next) refl (w .then-span-count-eq0 .either),
-               w .spans-is ∙ ap (λ z. set (c .loop-index .spans) (c .loop-index .span-count) (z, 0)) (gap-is p (s .of-next)),
-               w .span-count-is)
-        | else-span-count-eq0·else-index-next w ↦
-          inr (w .if-span-count-eq0 .left, agree (c .in-Some .index) _ (index-is p) refl (w .if-index-next .left), w .spans-is, w .span-count-is) ] in
+    elim (c .if-span-count-eq0 .came) [
+      | then-span-count-eq0 w ↦
+          inl (
+            apart (c .in-Some .index) _ (c .loop-index .kept .next) refl (w .then-span-count-eq0 .either),
+            w .spans-is ∙ ap (λ z. set (c .loop-index .spans) (c .loop-index .span-count) (z, 0)) (gap-is p (s .of-next)),
+            w .span-count-is,
+          )
+      | else-span-count-eq0·else-index-next w ↦
+          inr (w .if-span-count-eq0 .left, agree (c .in-Some .index) _ (index-is p) refl (w .if-index-next .left), w .spans-is, w .span-count-is)
+    ] in
     let o = opens s e (r .of-spans) (c .loop-index .inv .1 .of-spans) way in
     let l = open-length o in
     let m = seen-room s e (length (c .args .spans .now)) (r .of-spans) in
@@ -143,13 +150,16 @@ append-delta-requires g c κs =
     let r = ready (g .S·BucketStore .pairs (c .args .store .now)) (length (c .args .spans .now)) (length (c .args .deltas .now)) (c .pre) in
     let p = seen-place s e (met .means (c .args .store .now) .rises) (met .«in_range» (c .args .store .now)) in
     let way : Way (c .loop-index .span-count) _ (c .in-Some .index) (c .loop-index .spans) (c .if-span-count-eq0 .spans) (c .if-span-count-eq0 .span-count) =
-        elim (c .if-span-count-eq0 .came)
-        [ then-span-count-eq0 w ↦
-          inl (apart (c .in-Some .index) _ (c .loop-index .kept .next) refl (w .then-span-count-eq0 .either),
-               w .spans-is ∙ ap (λ z. set (c .loop-index .spans) (c .loop-index .span-count) (z, 0)) (gap-is p (s .of-next)),
-               w .span-count-is)
-        | else-span-count-eq0·else-index-next w ↦
-          inr (w .if-span-count-eq0 .left, agree (c .in-Some .index) _ (index-is p) refl (w .if-index-next .left), w .spans-is, w .span-count-is) ] in
+    elim (c .if-span-count-eq0 .came) [
+      | then-span-count-eq0 w ↦
+          inl (
+            apart (c .in-Some .index) _ (c .loop-index .kept .next) refl (w .then-span-count-eq0 .either),
+            w .spans-is ∙ ap (λ z. set (c .loop-index .spans) (c .loop-index .span-count) (z, 0)) (gap-is p (s .of-next)),
+            w .span-count-is,
+          )
+      | else-span-count-eq0·else-index-next w ↦
+          inr (w .if-span-count-eq0 .left, agree (c .in-Some .index) _ (index-is p) refl (w .if-index-next .left), w .spans-is, w .span-count-is)
+    ] in
     let o = opens s e (r .of-spans) (c .loop-index .inv .1 .of-spans) way in
     let f = p .few in
     let t = o .short in
@@ -177,25 +187,29 @@ loop-index-again g c =
     let r = ready (g .S·BucketStore .pairs (c .args .store .now)) (length (c .args .spans .now)) (length (c .args .deltas .now)) (c .pre) in
     let p = seen-place s e (met .means (c .args .store .now) .rises) (met .«in_range» (c .args .store .now)) in
     let way : Way (c .loop-index .span-count) _ (c .in-Some .index) (c .loop-index .spans) (c .if-span-count-eq0 .spans) (c .if-span-count-eq0 .span-count) =
-        elim (c .if-span-count-eq0 .came)
-        [ then-span-count-eq0 w ↦
-          inl (apart (c .in-Some .index) _ (c .loop-index .kept .next) refl (w .then-span-count-eq0 .either),
-               w .spans-is ∙ ap (λ z. set (c .loop-index .spans) (c .loop-index .span-count) (z, 0)) (gap-is p (s .of-next)),
-               w .span-count-is)
-        | else-span-count-eq0·else-index-next w ↦
-          inr (w .if-span-count-eq0 .left, agree (c .in-Some .index) _ (index-is p) refl (w .if-index-next .left), w .spans-is, w .span-count-is) ] in
+    elim (c .if-span-count-eq0 .came) [
+      | then-span-count-eq0 w ↦
+          inl (
+            apart (c .in-Some .index) _ (c .loop-index .kept .next) refl (w .then-span-count-eq0 .either),
+            w .spans-is ∙ ap (λ z. set (c .loop-index .spans) (c .loop-index .span-count) (z, 0)) (gap-is p (s .of-next)),
+            w .span-count-is,
+          )
+      | else-span-count-eq0·else-index-next w ↦
+          inr (w .if-span-count-eq0 .left, agree (c .in-Some .index) _ (index-is p) refl (w .if-index-next .left), w .spans-is, w .span-count-is)
+    ] in
     let o = opens s e (r .of-spans) (c .loop-index .inv .1 .of-spans) way in
     let k = seen-small s e (r .small) in
     let f : toZ w32 (ofZ w32 (toZ w32 (ofZ w32 (c .in-Some .index)) +ℤ pos 1)) ≡ c .in-Some .index +ℤ pos 1 = let l = p .index-low in let h = p .index-high in omega (arith, ints) in
     let d = c .append-delta .ensures .more in
     let v = c .append-delta .ensures .counted in
-    let n = last-more 0 (c .loop-index .yielded) (c .in-Some .index, c .in-Some .count) in
-    (seen-turn s e _ f k way,
-     record {
-       of-spans = open-set o _ (c .append-delta .ensures .longer ∙ ap (λ x. (x .0, x .1 + 1)) (open-at o (pos 0, 0)));
-       of-deltas = laying-deltas s e (c .args .deltas .now) (c .loop-index .deltas) _ _ (c .loop-index .inv .1 .before) (omega (arith, ints)) (r .of-deltas) (c .loop-index .inv .1 .of-deltas);
-       before = omega (arith, ints);
-     })
+    let n = last-more 0 (c .loop-index .yielded) (c .in-Some .index, c .in-Some .count) in (
+      seen-turn s e _ f k way,
+      record {
+        of-spans = open-set o _ (c .append-delta .ensures .longer ∙ ap (λ x. (x .0, x .1 + 1)) (open-at o (pos 0, 0)));
+        of-deltas = laying-deltas s e (c .args .deltas .now) (c .loop-index .deltas) _ _ (c .loop-index .inv .1 .before) (omega (arith, ints)) (r .of-deltas) (c .loop-index .inv .1 .of-deltas);
+        before = omega (arith, ints);
+      },
+    )
 
 pub returns : need.returns
 returns g c =

@@ -63,17 +63,19 @@ loop-index-again g c =
     let f : toZ w32 (ofZ w32 (toZ w32 (ofZ w32 (c .in-Some .index)) +ℤ pos 1)) ≡ c .in-Some .index +ℤ pos 1 = omega (arith, ints) in
     let k : c .in-Some .count < 2 ^ 63 = omega arith in
     let b : c .in-Some .index ≡ toZ w32 (ofZ w32 (c .in-Some .index)) = omega (arith, ints) in
-    elim (c .if-spans-eq0 .came)
-    [ then-spans-eq0 w ↦
-      rw (w .spans-is)
-      (seen-new (c .loop-index .inv) e _ f k
-       (elim (w .then-spans-eq0 .either)
-        [ inl z ↦ inl z
-        | inr z ↦ inr (differ (c .in-Some .index) _ (c .loop-index .kept .next) refl (z .1)) ]))
-    | else-spans-eq0·else-index-next w ↦
-      rw (w .spans-is)
-      (seen-more (c .loop-index .inv) e _ f k (w .if-spans-eq0 .left)
-       (agree (c .in-Some .index) _ b refl (w .if-index-next .left))) ]
+    elim (c .if-spans-eq0 .came) [
+      | then-spans-eq0 w ↦
+          rw (w .spans-is)
+          (seen-new (c .loop-index .inv) e _ f k
+          (elim (w .then-spans-eq0 .either) [
+            | inl z ↦ inl z
+            | inr z ↦ inr (differ (c .in-Some .index) _ (c .loop-index .kept .next) refl (z .1))
+          ]))
+      | else-spans-eq0·else-index-next w ↦
+          rw (w .spans-is)
+          (seen-more (c .loop-index .inv) e _ f k (w .if-spans-eq0 .left)
+          (agree (c .in-Some .index) _ b refl (w .if-index-next .left)))
+    ]
 
 pub returns : need.returns
 returns g c =

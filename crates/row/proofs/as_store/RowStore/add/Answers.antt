@@ -57,10 +57,10 @@ returns-in-Ok c =
     let ps = row-pairs r in
     let h = stands r i (c .in-Ok .position) (c .fits .index) (c .in-Ok .ensures tt) in
     let at : getD (row-pairs r) (c .in-Ok .position) (pos 0, 0) .0 ≡ i =
-        ap (λ k. getD ps k (pos 0, 0) .0) (sym (h .1)) ∙ index-at-place i ps (pos 0, 0) (r .rises) (h .0) in
+    ap (λ k. getD ps k (pos 0, 0) .0) (sym (h .1)) ∙ index-at-place i ps (pos 0, 0) (r .rises) (h .0) in
     record {
       allowed = allowed ps (row-room ps) i (ranges i _ (c .fits .index) (c .in-index-range .ensures) (c .if-not-in-index-range .left)) (spare r (c .if-self .left)) (room-listed i ps (h .0));
-      raises = c .raise-at .ensures ∙ ap (λ j. raised j ps) at
+      raises = c .raise-at .ensures ∙ ap (λ j. raised j ps) at;
     }
 
 pub returns-then-self-eq-CAPACITY : need.returns-then-self-eq-CAPACITY
@@ -73,9 +73,9 @@ returns-then-self-eq-CAPACITY c =
     let e : r .size ≡ 320 = c .if-self-eq-CAPACITY .taken in
     record {
       because =
-        no-room ps (row-room ps) i (ranges i _ (c .fits .index) (c .in-index-range .ensures) (c .if-not-in-index-range .left)) (spare r (c .if-self .left)) (room-none i ps (h .0) (omega arith))
-        ∙ ap (λ j. Some (7, j)) (sym (back i (c .fits .index)));
-      unchanged = refl
+          no-room ps (row-room ps) i (ranges i _ (c .fits .index) (c .in-index-range .ensures) (c .if-not-in-index-range .left)) (spare r (c .if-self .left)) (room-none i ps (h .0) (omega arith))
+          ∙ ap (λ j. Some (7, j)) (sym (back i (c .fits .index)));
+      unchanged = refl;
     }
 
 pub returns-else-self-eq-CAPACITY : need.returns-else-self-eq-CAPACITY
@@ -86,5 +86,5 @@ returns-else-self-eq-CAPACITY c =
     let n = row-length r in
     record {
       allowed = allowed ps (row-room ps) i (ranges i _ (c .fits .index) (c .in-index-range .ensures) (c .if-not-in-index-range .left)) (spare r (c .if-self .left)) (room-below i ps (omega arith));
-      raises = c .insert .ensures ∙ ap (λ j. raised j ps) (back i (c .fits .index))
+      raises = c .insert .ensures ∙ ap (λ j. raised j ps) (back i (c .fits .index));
     }

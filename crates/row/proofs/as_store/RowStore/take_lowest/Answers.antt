@@ -38,5 +38,5 @@ returns c =
     let r = c .args .self .now in
     record {
       answer = row-pair r 0 (pos 0, 0) (omega arith) ∙ sym (lowest-is (row-pairs r));
-      rest = c .remove-first .ensures ∙ sym (without-lowest-is (row-pairs r))
+      rest = c .remove-first .ensures ∙ sym (without-lowest-is (row-pairs r));
     }

@@ -57,19 +57,19 @@ ghost-self c =
     let sum = run .summed in
     let at = c .position-of-at .result in
     let counts : c .if-self-place-eq0 .self .1 .1 .1 .1 .0 + used (counter (run .counters) at) ≡ run .size + 1 =
-      elim (c .if-self-place-eq0 .came) [
-        then-self-place-eq0 w ↦
+    elim (c .if-self-place-eq0 .came) [
+      | then-self-place-eq0 w ↦
           let s = ap (λ t. t .1 .1 .1 .1 .0) (w .self-is) in
           let z = used-zero (counter (run .counters) at) (w .if-self-place-eq0 .taken) in
           omega arith
-        | else-self-place-eq0 w ↦
+      | else-self-place-eq0 w ↦
           let s = ap (λ t. t .1 .1 .1 .1 .0) (w .self-is) in
           let z = used-more (counter (run .counters) at) (omega arith) in
           omega arith
-      ] in
+    ] in
     kept
     (adds-window (run .counters) (run .first) (run .span) (run .size) (run .total) at (c .widened-first .result .0) (c .widened-first .result .1) (window-of run) (c .widened-first .ensures) long
-      (c .if-self-place-eq0 .self .1 .1 .1 .1 .0) (c .position-of-at .ensures .bound) counts (omega arith))
+    (c .if-self-place-eq0 .self .1 .1 .1 .1 .0) (c .position-of-at .ensures .bound) counts (omega arith))
 
 pub returns : need.returns
 returns c =
@@ -82,6 +82,6 @@ returns c =
     record {
       allowed = ap (add-refusal (pairs-of run) (room-of run)) (sym x) ∙ sym (c .in-rest .ensures tt);
       raises =
-        adds (run .counters) (run .first) (run .span) (run .size) (run .total) at (c .widened-first .result .0) (c .widened-first .result .1) (window-of run) (c .widened-first .ensures) long
-        ∙ ap (λ j. raised j (pairs-of run)) e
+          adds (run .counters) (run .first) (run .span) (run .size) (run .total) at (c .widened-first .result .0) (c .widened-first .result .1) (window-of run) (c .widened-first .ensures) long
+          ∙ ap (λ j. raised j (pairs-of run)) e;
     }

@@ -22,7 +22,7 @@ returns-then-highest-index c =
     let hi = index-of (run .first + run .span - 1) in
     let near : hi ≤ℤ (c .args .index +ℤ pos 511) = grind (arith, ints) in
     let up : leZ (c .args .index) (lo +ℤ pos 511) ≡ ltZ (maxZ hi (c .args .index)) (minZ lo (c .args .index) +ℤ pos 512) =
-      room-up-to lo hi (c .args .index) (omega (arith, ints)) (omega (arith, ints)) near in
+    room-up-to lo hi (c .args .index) (omega (arith, ints)) (omega (arith, ints)) near in
     let x : toZ w32 (ofZ w32 (c .args .index)) ≡ c .args .index = omega (arith, ints) in
     let y : toZ w32 (ofZ w32 (toZ w32 (ofZ w32 (c .index-at-lowest .result)) +ℤ pos 511)) ≡ lo +ℤ pos 511 = omega (arith, ints) in
     ap (λ z. leZ z (toZ w32 (ofZ w32 (toZ w32 (ofZ w32 (c .index-at-lowest .result)) +ℤ pos 511)))) x

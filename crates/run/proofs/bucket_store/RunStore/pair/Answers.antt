@@ -36,10 +36,10 @@ loop-at-again c =
     let end = run .first + run .span in
     let sought = pair-at (pairs-of run) (c .args .position) in
     elim (c .if-count-gt0 .came) [
-      then-count-gt0·else-left-eq0 w ↦
-        walk-passes (counter (run .counters)) at end left (c .loop-at-test .taken) (c .if-count-gt0 .left) sought
-        (w .left-is) (w .if-count-gt0 .taken) (omega arith) (c .loop-at .inv)
+      | then-count-gt0·else-left-eq0 w ↦
+          walk-passes (counter (run .counters)) at end left (c .loop-at-test .taken) (c .if-count-gt0 .left) sought
+          (w .left-is) (w .if-count-gt0 .taken) (omega arith) (c .loop-at .inv)
       | else-count-gt0 w ↦
-        walk-skips (counter (run .counters)) at end left (c .loop-at-test .taken) (c .if-count-gt0 .left) sought
-        (w .left-is) (omega arith) (c .loop-at .inv)
+          walk-skips (counter (run .counters)) at end left (c .loop-at-test .taken) (c .if-count-gt0 .left) sought
+          (w .left-is) (omega arith) (c .loop-at .inv)
     ]

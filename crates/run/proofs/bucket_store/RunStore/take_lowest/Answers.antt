@@ -35,7 +35,7 @@ returns c =
     let x : toZ w32 (ofZ w32 (c .index-at .result)) ≡ index-of (run .first) = omega (arith, ints) in
     record {
       answer =
-        takes-lowest (run .counters) (run .first) (run .span) (run .size) (run .total) (c .used-from-next .result) (window-of run) (omega arith) (c .used-from-next .ensures)
-        (toZ w32 (ofZ w32 (c .index-at .result))) x;
-      rest = takes-rest (run .counters) (run .first) (run .span) (run .size) (run .total) (c .used-from-next .result) (window-of run) (omega arith) (c .used-from-next .ensures) long
+          takes-lowest (run .counters) (run .first) (run .span) (run .size) (run .total) (c .used-from-next .result) (window-of run) (omega arith) (c .used-from-next .ensures)
+          (toZ w32 (ofZ w32 (c .index-at .result))) x;
+      rest = takes-rest (run .counters) (run .first) (run .span) (run .size) (run .total) (c .used-from-next .result) (window-of run) (omega arith) (c .used-from-next .ensures) long;
     }

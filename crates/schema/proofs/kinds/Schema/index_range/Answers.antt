@@ -45,5 +45,5 @@ returns c =
     record {
       lowest = same-back (c .finite-index .result) (a .range .0) (a .range .1) ∙ a .value ∙ ap (finite-index s) smallest ∙ e .bottom;
       highest = plus-one (c .finite-index-2 .result) (b .range .0) (b .range .1) ∙ ap (λ (z : ℤ). z +ℤ pos 1) (b .value ∙ ap (finite-index s) greatest) ∙ e .top;
-      reached = record { lowest = e .bottom; highest = e .top }
+      reached = record { lowest = e .bottom; highest = e .top };
     }

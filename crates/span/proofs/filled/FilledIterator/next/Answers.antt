@@ -42,7 +42,7 @@ returns-then-gap-le-SHORT-GAP g c =
     record { steps = e; goes = record { on = λ _. (tt, tt, shorter _ _ _ e) } }
 
 pub add-self-2 : need.add-self-2
-add-self-2 g c = 
+add-self-2 g c =
     let s = c .args .self .now in
     let ps = g .S·BucketStore .pairs (s .store .now) in
     let n = few-pairs ps (g .S·BucketStore·met .means (s .store .now)) in
@@ -69,8 +69,9 @@ returns g c =
     let r = pair-ranges ps (s .position) (c .in-Continue-index .index, c .in-Continue-index .count) (g .S·BucketStore·met .«in_range» (s .store .now)) at in
     let i = c .in-Continue-index .index in
     let apart : (i ≡ s .next +ℤ pos 1 → ⊥) × (i ≡ s .next +ℤ pos 2 → ⊥) =
-        elim (c .else-gap-gt0 .came)
-        [ need.else-gap-gt0·by·then-gap-gt0·else-gap-le-SHORT-GAP w ↦ gap-long i (s .next) r (s .low) (s .high) (w .if-gap-le-SHORT-GAP .left)
-        | need.else-gap-gt0·by·else-gap-gt0 w ↦ gap-none i (s .next) r (s .low) (s .high) (w .if-gap-gt0 .left) ] in
+    elim (c .else-gap-gt0 .came) [
+      | need.else-gap-gt0·by·then-gap-gt0·else-gap-le-SHORT-GAP w ↦ gap-long i (s .next) r (s .low) (s .high) (w .if-gap-le-SHORT-GAP .left)
+      | need.else-gap-gt0·by·else-gap-gt0 w ↦ gap-none i (s .next) r (s .low) (s .high) (w .if-gap-gt0 .left)
+    ] in
     let e = lists-pair ps (s .position) (s .next) (s .low) (s .high) i (c .in-Continue-index .count) r at apart in
     record { steps = e; goes = record { on = λ _. (tt, tt, shorter _ _ _ e) } }

@@ -32,8 +32,9 @@ add-self c =
 
 pub loop-self-again : need.loop-self-again
 loop-self-again c =
-    let f : SFits w32 (c .in-Some .span .now .0) = search needs in
-    (begun (c .loop-self .self) (c .loop-self .inv .0) (c .in-Some .span .now) (c .in-Some .spans .now) (c .loop-self-test .taken) (c .in-Some .ensures tt .cases .0) f,
-     begun-buckets (c .loop-self .self) (c .loop-self .inv .0) (c .in-Some .span .now) (c .in-Some .spans .now) (c .loop-self-test .taken) (c .in-Some .ensures tt .cases .0) f
-     ∙ c .loop-self .inv .1,
-     c .loop-self .inv .2)
+    let f : SFits w32 (c .in-Some .span .now .0) = search needs in (
+      begun (c .loop-self .self) (c .loop-self .inv .0) (c .in-Some .span .now) (c .in-Some .spans .now) (c .loop-self-test .taken) (c .in-Some .ensures tt .cases .0) f,
+      begun-buckets (c .loop-self .self) (c .loop-self .inv .0) (c .in-Some .span .now) (c .in-Some .spans .now) (c .loop-self-test .taken) (c .in-Some .ensures tt .cases .0) f
+          ∙ c .loop-self .inv .1,
+      c .loop-self .inv .2,
+    )

@@ -48,7 +48,7 @@ returns c =
     record {
       sound = has-read r s d ds some next f g;
       gives =
-        sym (c .begin-span .ensures .same)
-        ∙ read-buckets r s d ds some next f g
-        ∙ ap (λ p. p ∷ unread (toZ w32 (ofZ w32 (toZ w32 (ofZ w32 (r .index)) +ℤ pos 1))) (r .left - 1) (r .spans .now) (toZ w64 (ofZ w64 (toZ w64 (ofZ w64 (r .count)) +ℤ toZ w64 (ofZ w64 d)))) ds) (yielded-is r s d ds some next f g);
+          sym (c .begin-span .ensures .same)
+          ∙ read-buckets r s d ds some next f g
+          ∙ ap (λ p. p ∷ unread (toZ w32 (ofZ w32 (toZ w32 (ofZ w32 (r .index)) +ℤ pos 1))) (r .left - 1) (r .spans .now) (toZ w64 (ofZ w64 (toZ w64 (ofZ w64 (r .count)) +ℤ toZ w64 (ofZ w64 d)))) ds) (yielded-is r s d ds some next f g);
     }
