@@ -1,0 +1,3 @@
+pub mod Chosen
+pub mod Filing
+pub mod Forms
