@@ -21,7 +21,7 @@ impl Random {
     }
 
     // A number below the limit.
-    pub fn below(&mut self, limit: u32) -> u32
+    pub(crate) fn below(&mut self, limit: u32) -> u32
         requires { ⌜ 0 < limit ⌝ }
         ensures { λ r. ⌜ r < limit ⌝ }
     {
@@ -29,7 +29,7 @@ impl Random {
     }
 
     // One of `width` indices from the lowest on.
-    pub fn index(&mut self, lowest: i32, width: u32) -> i32
+    pub(crate) fn index(&mut self, lowest: i32, width: u32) -> i32
         requires some { ⌜ 0 < width ⌝ }
         requires few { ⌜ width ≤ 2 ^ 31 ⌝ }
     {

@@ -191,7 +191,7 @@ fn random_call(random: &mut Random, lowest: i32, width: u32) -> Call
 }
 
 // Random calls with indices among `width` from the lowest on; now and then all that is listed is compared.
-pub fn random_calls<S: BucketStore>(
+pub(crate) fn random_calls<S: BucketStore>(
     trial: &mut Trial<S>,
     seed: u64,
     lowest: i32,
