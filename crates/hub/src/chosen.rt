@@ -11,7 +11,7 @@ use std::fmt;
 use store::BucketStore;
 use store::StoreFault;
 
-#[derive(Clone, Copy, PartialEq, Eq, Debug)]
+#[derive(Clone, Copy)]
 pub enum StoreKind {
     Row,
     Run,

@@ -17,7 +17,7 @@ use store::StoreFault;
 use store::StoreFaultDisplay;
 
 // The sign of a reading.
-#[derive(Clone, Copy, PartialEq, Eq, Debug)]
+#[derive(Clone, Copy)]
 pub enum Side {
     Positive,
     Negative,

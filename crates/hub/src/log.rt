@@ -1,11 +1,13 @@
 // Lines of the log.
 ghost use mathlib.Core.Path.{_≡_};
+ghost use Prim.Native.Nat.{_<_};
 ghost use lib.IntN.{pos};
+ghost use lib.ListN.{length};
+ghost use Rattle.std.specs.Options.{Cases};
 use crate::chosen::StoreKind;
 use crate::written::Written;
 use schema::Schema;
 use schema::SchemaFault;
-use schema::SchemaFaultDebug;
 use schema::SchemaFaultDisplay;
 use std::alloc::AllocError;
 use std::alloc::Global;
@@ -49,160 +51,236 @@ pub enum Entry<'a> {
 }
 
 // Why a line is not read.
-#[derive(Clone, Copy, Debug)]
-pub enum LineFault<'a> {
-    // it is no text in UTF-8
-    NotText,
-    // nothing follows the plug's name
-    NoValue(&'a str),
-    // a word after the value
-    Extra(&'a str),
-    // no plug's name follows the first word
+#[derive(Clone, Copy)]
+pub enum Cause {
     NoName,
-    // what follows a plug's name
-    Option(&'a str),
-    // the word after `schema` is no number of 8 bits
-    Whole(&'a str),
-    Schema(SchemaFault),
-    // the value is no number
-    Number(&'a str),
-    Span(&'a str),
-    Delta(&'a str),
-    // nothing parts the spans from the deltas
+    NoValue,
+    Extra,
+    NoNumber,
+    NoOption,
+    NoSchema,
+    Refused(SchemaFault),
+    NoSpan,
+    NoDelta,
     NoSlash,
-    // the plug is declared already
-    Again(&'a str),
+    Again,
     NoMemory,
+}
+
+impl Cause {
+    fn text(self) -> &'static str {
+        match self {
+            Cause::NoName => "no plug is named after it",
+            Cause::NoValue => "no value follows it",
+            Cause::Extra => "a word too many",
+            Cause::NoNumber => "not a number",
+            Cause::NoOption => "no option of a plug, which are row, run and schema N",
+            Cause::NoSchema => "not a whole number of 8 bits",
+            Cause::Refused(_) => "refused",
+            Cause::NoSpan => "not a span OFFSET:LENGTH",
+            Cause::NoDelta => "not a whole number of 64 bits",
+            Cause::NoSlash => "no / between its spans and its deltas",
+            Cause::Again => "declared already",
+            Cause::NoMemory => "no memory is left",
+        }
+    }
+}
+
+// Why a line is not read, and the word that shows it.
+#[derive(Clone, Copy)]
+pub struct LineFault<'a> {
+    pub cause: Cause,
+    pub word: &'a str,
 }
 
 impl From<AllocError> for LineFault<'_> as LineFaultFromAlloc {
     fn from(_: AllocError) -> Self {
-        LineFault::NoMemory
+        LineFault {
+            cause: Cause::NoMemory,
+            word: "",
+        }
     }
 }
 
 impl<T: Drop> From<Refused<T>> for LineFault<'_> as LineFaultFromRefused {
     fn from(_: Refused<T>) -> Self {
-        LineFault::NoMemory
+        LineFault {
+            cause: Cause::NoMemory,
+            word: "",
+        }
     }
 }
 
 pub impl fmt::Display for LineFault<'_> as LineFaultDisplay {
     fn fmt<W: fmt::Write>(&self, f: &mut fmt::Formatter<W>) -> fmt::Result {
-        match self {
-            LineFault::NotText => write!(f, "it is no text in UTF-8"),
-            LineFault::NoValue(name) => write!(f, "no value after {name}"),
-            LineFault::Extra(word) => write!(f, "{word:?} is a word too many"),
-            LineFault::NoName => write!(f, "no plug is named"),
-            LineFault::Option(word) => write!(
-                f,
-                "{word:?} is no option of a plug: row, run or schema N"
-            ),
-            LineFault::Whole(word) => write!(f, "{word:?} is no schema"),
-            LineFault::Schema(fault) => write!(f, "{fault}"),
-            LineFault::Number(word) => write!(f, "{word:?} is no number"),
-            LineFault::Span(word) => write!(f, "{word:?} is no span OFFSET:LENGTH"),
-            LineFault::Delta(word) => write!(f, "{word:?} is no delta, a whole number"),
-            LineFault::NoSlash => write!(f, "no / parts the spans from the deltas"),
-            LineFault::Again(name) => write!(f, "{name} is declared already"),
-            LineFault::NoMemory => write!(f, "no memory is left"),
+        let word = self.word;
+        if let Cause::Refused(fault) = self.cause {
+            return write!(f, "{word:?}: {fault}");
         }
-    }
-}
-
-// The line without its comment.
-fn before_comment(line: &str) -> &str {
-    match line.split_once('#') {
-        Some((text, _)) => text,
-        None => line,
+        let text = self.cause.text();
+        write!(f, "{word:?}: {text}")
     }
 }
 
 // What the line says.
 pub fn parse_line(heap: Global, line: &str) -> Result<Entry<'_>, LineFault<'_>> {
-    let words: Vec<&str> = before_comment(line).split_whitespace().collect(heap)?;
+    let text = match line.split_once('#') {
+        Some((text, _)) => text,
+        None => line,
+    };
+    let words: Vec<&str> = text.split_whitespace().collect(heap)?;
     parse_words(heap, words.as_slice())
 }
 
 fn parse_words<'a>(heap: Global, words: &[&'a str]) -> Result<Entry<'a>, LineFault<'a>> {
-    match words {
-        [] => Ok(Entry::Nothing),
-        ["plug", name, options @ ..] => parse_plug(*name, options),
-        ["spans", name, rest @ ..] => parse_spans(heap, *name, rest),
-        ["plug"] | ["spans"] => Err(LineFault::NoName),
-        [name] => Err(LineFault::NoValue(*name)),
-        [name, value] => match value.parse::<f64>() {
-            Ok(value) => Ok(Entry::Reading { name: *name, value }),
-            Err(_) => Err(LineFault::Number(*value)),
-        },
-        [_, _, extra, ..] => Err(LineFault::Extra(*extra)),
+    let [first, rest @ ..] = words else {
+        return Ok(Entry::Nothing);
+    };
+    match *first {
+        "plug" => parse_plug(rest),
+        "spans" => parse_spans(heap, rest),
+        name => parse_reading(name, rest),
     }
 }
 
-fn parse_plug<'a>(name: &'a str, options: &[&'a str]) -> Result<Entry<'a>, LineFault<'a>> {
-    let (kind, rest) = match options {
+// A reading, by what follows the plug's name.
+fn parse_reading<'a>(name: &'a str, words: &[&'a str]) -> Result<Entry<'a>, LineFault<'a>> {
+    match words {
+        [] => Err(LineFault {
+            cause: Cause::NoValue,
+            word: name,
+        }),
+        [word] => match word.parse::<f64>() {
+            Ok(value) => Ok(Entry::Reading { name, value }),
+            Err(_) => Err(LineFault {
+                cause: Cause::NoNumber,
+                word: *word,
+            }),
+        },
+        [_, word, ..] => Err(LineFault {
+            cause: Cause::Extra,
+            word: *word,
+        }),
+    }
+}
+
+// A plug's declaration, by what follows the word `plug`.
+fn parse_plug<'a>(words: &[&'a str]) -> Result<Entry<'a>, LineFault<'a>> {
+    let [name, options @ ..] = words else {
+        return Err(LineFault {
+            cause: Cause::NoName,
+            word: "plug",
+        });
+    };
+    let (kind, options) = match options {
         ["row", rest @ ..] => (StoreKind::Row, rest),
         ["run", rest @ ..] => (StoreKind::Run, rest),
         _ => (StoreKind::Row, options),
     };
-    match rest {
-        [] => declared(name, kind, USUAL_SCHEMA),
+    match Schema::new(parse_schema(options)?) {
+        Ok(schema) => Ok(Entry::Declared {
+            name: *name,
+            kind,
+            schema,
+        }),
+        Err(fault) => Err(LineFault {
+            cause: Cause::Refused(fault),
+            word: *name,
+        }),
+    }
+}
+
+// The number of the schema that the options of a plug name.
+fn parse_schema<'a>(options: &[&'a str]) -> Result<i8, LineFault<'a>> {
+    match options {
+        [] => Ok(USUAL_SCHEMA),
         ["schema", word] => match word.parse::<i8>() {
-            Ok(number) => declared(name, kind, number),
-            Err(_) => Err(LineFault::Whole(*word)),
+            Ok(number) => Ok(number),
+            Err(_) => Err(LineFault {
+                cause: Cause::NoSchema,
+                word: *word,
+            }),
         },
-        [word, ..] => Err(LineFault::Option(*word)),
+        [word, ..] => Err(LineFault {
+            cause: Cause::NoOption,
+            word: *word,
+        }),
     }
 }
 
-fn declared<'a>(name: &'a str, kind: StoreKind, number: i8) -> Result<Entry<'a>, LineFault<'a>> {
-    match Schema::new(number) {
-        Ok(schema) => Ok(Entry::Declared { name, kind, schema }),
-        Err(fault) => Err(LineFault::Schema(fault)),
-    }
+// Spans and deltas, by what follows the word `spans`.
+fn parse_spans<'a>(heap: Global, words: &[&'a str]) -> Result<Entry<'a>, LineFault<'a>> {
+    let [name, rest @ ..] = words else {
+        return Err(LineFault {
+            cause: Cause::NoName,
+            word: "spans",
+        });
+    };
+    let Some(slash) = slash_at(rest) else {
+        return Err(LineFault {
+            cause: Cause::NoSlash,
+            word: *name,
+        });
+    };
+    let spans = parse_list::<(i32, u32)>(heap, &rest[0..slash])?;
+    let deltas = parse_list::<i64>(heap, &rest[slash + 1..])?;
+    Ok(Entry::Spans {
+        name: *name,
+        written: Written { spans, deltas },
+    })
 }
 
-fn parse_spans<'a>(
-    heap: Global,
-    name: &'a str,
-    words: &[&'a str],
-) -> Result<Entry<'a>, LineFault<'a>> {
-    let mut spans = Vec::new(heap);
-    let mut deltas = Vec::new(heap);
-    let mut past_slash = false;
-    for word in words {
-        if past_slash {
-            deltas.push(parse_delta(*word)?)?;
-        } else if *word == "/" {
-            past_slash = true;
-        } else {
-            spans.push(parse_span(*word)?)?;
+// The position of the word that parts spans from deltas.
+fn slash_at(words: &[&str]) -> Option<usize>
+    ensures { λ r. ⌜ Cases r (Unit {0}) (λ k. k < length (now (words .entry))) ⌝ }
+{
+    for (position, word) in words.iter().enumerate() {
+        if *word == "/" {
+            return Some(position);
         }
     }
-    if past_slash {
-        Ok(Entry::Spans {
-            name,
-            written: Written { spans, deltas },
+    None
+}
+
+// What a single word says.
+trait FromWord: Sized {
+    fn from_word(word: &str) -> Result<Self, LineFault<'_>>;
+}
+
+impl FromWord for (i32, u32) as SpanFromWord {
+    fn from_word(word: &str) -> Result<(i32, u32), LineFault<'_>> {
+        if let Some((offset, length)) = word.split_once(':') {
+            if let (Ok(offset), Ok(length)) = (offset.parse::<i32>(), length.parse::<u32>()) {
+                return Ok((offset, length));
+            }
+        }
+        Err(LineFault {
+            cause: Cause::NoSpan,
+            word,
         })
-    } else {
-        Err(LineFault::NoSlash)
     }
 }
 
-// A span as OFFSET:LENGTH.
-fn parse_span(word: &str) -> Result<(i32, u32), LineFault<'_>> {
-    let Some((offset, length)) = word.split_once(':') else {
-        return Err(LineFault::Span(word));
-    };
-    match (offset.parse::<i32>(), length.parse::<u32>()) {
-        (Ok(offset), Ok(length)) => Ok((offset, length)),
-        _ => Err(LineFault::Span(word)),
+impl FromWord for i64 as DeltaFromWord {
+    fn from_word(word: &str) -> Result<i64, LineFault<'_>> {
+        match word.parse::<i64>() {
+            Ok(delta) => Ok(delta),
+            Err(_) => Err(LineFault {
+                cause: Cause::NoDelta,
+                word,
+            }),
+        }
     }
 }
 
-fn parse_delta(word: &str) -> Result<i64, LineFault<'_>> {
-    match word.parse::<i64>() {
-        Ok(delta) => Ok(delta),
-        Err(_) => Err(LineFault::Delta(word)),
+// An item for each word.
+fn parse_list<'a, T: FromWord + Drop>(
+    heap: Global,
+    words: &[&'a str],
+) -> Result<Vec<T>, LineFault<'a>> {
+    let mut items = Vec::new(heap);
+    for word in words {
+        items.push(T::from_word(*word)?)?;
     }
+    Ok(items)
 }

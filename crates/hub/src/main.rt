@@ -8,8 +8,6 @@ mod hubs;
 mod log;
 mod plugs;
 mod report;
-#[cfg(test)]
-mod tests;
 mod written;
 
 use chosen::StoreKind;
@@ -17,6 +15,7 @@ use chosen::StoreKindDisplay;
 use filing::FiledDisplay;
 use filing::Side;
 use hubs::Hub;
+use log::Cause;
 use log::Entry;
 use log::LineFault;
 use log::LineFaultDisplay;
@@ -27,7 +26,7 @@ use report::print_plug;
 use schema::Schema;
 use span::SpanFaultDisplay;
 use std::env;
-use std::error::AnyError;
+use std::io;
 use std::io::BufRead;
 use std::io::BufReader;
 use written::Written;
@@ -47,43 +46,43 @@ fn declare(
     name: &str,
     kind: StoreKind,
     schema: Schema,
-) -> Result<(), AnyError> {
+) -> io::Result<()> {
     let number = schema.value();
     hub.declare(rt.alloc(), name, kind, schema)?;
-    println!(rt, "{name}: a {kind} at schema {number}")?;
-    Ok(())
+    println!(rt, "{name}: a {kind} at schema {number}")
 }
 
-fn file(rt: &LibcRuntime, hub: &mut Hub, name: &str, value: f64) -> Result<(), AnyError> {
+fn file(rt: &LibcRuntime, hub: &mut Hub, name: &str, value: f64) -> io::Result<()> {
     if !hub.knows(name) {
         declare(rt, hub, name, StoreKind::Row, usual_schema())?;
     }
-    if let Some(filed) = hub.file(name, value) {
-        println!(rt, "{name}: {value} A, {filed}")?;
+    match hub.file(name, value) {
+        Some(filed) => println!(rt, "{name}: {value} A, {filed}"),
+        None => Ok(()),
     }
-    Ok(())
 }
 
-fn read_spans(rt: &LibcRuntime, hub: &Hub, name: &str, written: &Written) -> Result<(), AnyError> {
+fn read_spans(rt: &LibcRuntime, hub: &Hub, name: &str, written: &Written) -> io::Result<()> {
     match read_back(rt.alloc(), written)? {
         Ok(pairs) => {
             let count = pairs.len();
             println!(rt, "{name}: spans and deltas of {count} buckets")?;
-            print_chart(rt, hub.schema_of(name), Side::Positive, pairs.as_slice())?;
+            print_chart(rt, hub.schema_of(name), Side::Positive, pairs.as_slice())
         }
-        Err(fault) => println!(rt, "{name}: spans and deltas are damaged, {fault}")?,
+        Err(fault) => println!(rt, "{name}: spans and deltas are damaged, {fault}"),
     }
-    Ok(())
 }
 
-fn record(rt: &LibcRuntime, hub: &mut Hub, number: u64, entry: Entry) -> Result<(), AnyError> {
+fn record(rt: &LibcRuntime, hub: &mut Hub, number: u64, entry: Entry) -> io::Result<()> {
     match entry {
         Entry::Nothing => Ok(()),
         Entry::Declared { name, kind, schema } => {
             if hub.knows(name) {
-                let fault = LineFault::Again(name);
-                println!(rt, "line {number}: {fault}")?;
-                return Ok(());
+                let fault = LineFault {
+                    cause: Cause::Again,
+                    word: name,
+                };
+                return println!(rt, "line {number}: {fault}");
             }
             declare(rt, hub, name, kind, schema)
         }
@@ -92,19 +91,17 @@ fn record(rt: &LibcRuntime, hub: &mut Hub, number: u64, entry: Entry) -> Result<
     }
 }
 
-fn read_line(rt: &LibcRuntime, hub: &mut Hub, number: u64, bytes: &[u8]) -> Result<(), AnyError> {
-    let entry = match std::str::from_utf8(bytes) {
-        Ok(text) => parse_line(rt.alloc(), text),
-        Err(_) => Err(LineFault::NotText),
+fn read_line(rt: &LibcRuntime, hub: &mut Hub, number: u64, bytes: &[u8]) -> io::Result<()> {
+    let Ok(text) = std::str::from_utf8(bytes) else {
+        return println!(rt, "line {number}: not a text in UTF-8");
     };
-    match entry {
-        Ok(entry) => record(rt, hub, number, entry)?,
-        Err(fault) => println!(rt, "line {number}: {fault}")?,
+    match parse_line(rt.alloc(), text) {
+        Ok(entry) => record(rt, hub, number, entry),
+        Err(fault) => println!(rt, "line {number}: {fault}"),
     }
-    Ok(())
 }
 
-fn read_log(rt: &LibcRuntime) -> Result<(), AnyError> {
+fn read_log(rt: &LibcRuntime) -> io::Result<()> {
     let heap = rt.alloc();
     let mut hub = Hub::new(heap);
     let mut number = 0u64;
@@ -116,7 +113,7 @@ fn read_log(rt: &LibcRuntime) -> Result<(), AnyError> {
 }
 
 // Each plug, by name.
-fn print_hub(rt: &LibcRuntime, hub: &Hub) -> Result<(), AnyError> {
+fn print_hub(rt: &LibcRuntime, hub: &Hub) -> io::Result<()> {
     for (name, plug) in hub.plugs.iter() {
         println!(rt, "")?;
         print_plug(rt, name.as_str(), plug)?;
@@ -124,19 +121,14 @@ fn print_hub(rt: &LibcRuntime, hub: &Hub) -> Result<(), AnyError> {
     Ok(())
 }
 
-// Whether the program was given an argument, as --help: it takes no other.
-fn wants_help(rt: &LibcRuntime) -> Result<bool, AnyError> {
-    Ok(env::args(rt)?.count() > 1)
-}
-
-fn run_program(rt: &LibcRuntime) -> Result<(), AnyError> {
-    if wants_help(rt)? {
-        print!(rt, "{HELP}")?;
-        return Ok(());
+// With an argument, as --help, the program says what it reads: it takes no other.
+fn run_program(rt: &LibcRuntime) -> io::Result<()> {
+    if env::args(rt)?.count() > 1 {
+        return print!(rt, "{HELP}");
     }
     read_log(rt)
 }
 
-fn main(rt: LibcRuntime) -> Result<(), AnyError> {
+fn main(rt: LibcRuntime) -> io::Result<()> {
     rt.report(run_program(&rt))
 }

@@ -17,7 +17,6 @@ use crate::written::write_out;
 use schema::Schema;
 use schema::positive_upper_bound;
 use span::WriteFaultDisplay;
-use std::error::AnyError;
 use std::io;
 
 // How wide the bar of the highest count is.
@@ -85,12 +84,7 @@ pub fn print_written(rt: &LibcRuntime, written: &Written) -> io::Result<()> {
 }
 
 // The chart of a side that lists something, and its spans and deltas.
-fn print_side(
-    rt: &LibcRuntime,
-    schema: Schema,
-    side: Side,
-    store: &Buckets,
-) -> Result<(), AnyError> {
+fn print_side(rt: &LibcRuntime, schema: Schema, side: Side, store: &Buckets) -> io::Result<()> {
     let pairs = pairs_of(rt.alloc(), store)?;
     if pairs.is_empty() {
         return Ok(());
@@ -98,13 +92,12 @@ fn print_side(
     println!(rt, "  {side}:")?;
     print_chart(rt, schema, side, pairs.as_slice())?;
     match write_out(rt.alloc(), store)? {
-        Ok(written) => print_written(rt, &written)?,
-        Err(fault) => println!(rt, "  not written, {fault}")?,
+        Ok(written) => print_written(rt, &written),
+        Err(fault) => println!(rt, "  not written, {fault}"),
     }
-    Ok(())
 }
 
-pub fn print_plug(rt: &LibcRuntime, name: &str, plug: &Plug) -> Result<(), AnyError> {
+pub fn print_plug(rt: &LibcRuntime, name: &str, plug: &Plug) -> io::Result<()> {
     let kind = plug.positive.kind();
     let schema = plug.schema.value();
     let readings = plug.readings;
