@@ -55,6 +55,18 @@ def declared():
     for path in antt_files():
         text = open(path, encoding="utf-8").read()
         names |= {m.group(1) for m in binder.finditer(text)}
+    return names - libraries()
+
+
+def libraries():
+    """The names that are imported from other repositories' modules."""
+    crates = [line.split(":")[0] for line in open("crates.txt", encoding="utf-8") if not line.startswith("#")]
+    names = set()
+    for path in antt_files() + sorted(glob.glob("crates/*/src/*.rt")):
+        text = open(path, encoding="utf-8").read()
+        for m in re.finditer(r"use ([^\s{}]+)\.\{([^}]*)\}", text):
+            if not any(m.group(1).startswith(f"Rattle.{c}.") for c in crates):
+                names |= {n.strip().split(" as ")[0] for n in m.group(2).split(",")}
     return names
 
 

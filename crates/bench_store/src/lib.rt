@@ -1,4 +1,6 @@
 // Adds whole sequences of indices to a row or a run, for a program of another language that measures how long it takes.
+#![tactic(auto)]
+
 use row::Row;
 use run::Run;
 use store::BucketStore;

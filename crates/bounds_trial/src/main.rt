@@ -1,4 +1,6 @@
 // Checks the bounds and indices of all schemas, and prints a line for each schema, with the first failure if there is one.
+#![tactic(auto)]
+
 mod checks;
 mod laws;
 mod numbers;

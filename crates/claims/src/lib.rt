@@ -1,4 +1,6 @@
 // The table of worked cases: the contract of one function, each case proved.
+#![tactic(auto)]
+
 ghost use Rattle.claims.specs.Cases.{Indices};
 ghost use Rattle.span.specs.Laws.{Worked};
 

@@ -1,5 +1,5 @@
 -- The fraction of a double: its bits, and that it splits the magnitude.
-use Rattle.std.proofs.Common.{◌≡◌, ℕ, zero, suc, ◌+◌, ◌-◌, ◌*◌, ◌/◌, ◌%◌, ◌^◌, ◌<◌, ◌≤◌, Bool, true, false, cond, not, ◌&&◌, T, eqb, ltb, leb, ℤ, pos, negsuc, ◌+ℤ◌, ◌-ℤ◌, neg_ℤ, sym, refl, ap, ◌∙◌, subst, ap₂, le_trans, le_of_eq, le_refl, lt_of_lt_of_le, lt_of_le_of_lt, le_of_lt, lt_irrefl, mul-le-mul_right, zero-lt-suc, mul_assoc, add_comm, le_antisymm, mul_lt_mul_of_pos_right, mul-pos, one_mul, zero-mul, mul-one, mul_right_comm, mul-div_cancel, add-sub_cancel, arith, lit≤, le→leb, lt→ltb, pow_pos, pow_mono, pow_add, shl_lt, ltb_false, ltb_true, le-ltb, lt-ltb, eqb-true, le-leb}
+use Rattle.std.proofs.Common.{◌≡◌, ℕ, zero, suc, ◌+◌, ◌-◌, ◌*◌, ◌/◌, ◌%◌, ◌^◌, ◌<◌, ◌≤◌, Bool, true, false, cond, not, ◌&&◌, T, eqb, ltb, leb, ℤ, pos, negsuc, ◌+ℤ◌, ◌-ℤ◌, neg_ℤ, sym, refl, ap, ◌∙◌, subst, ap₂, le_trans, le_of_eq, le_refl, lt_of_lt_of_le, lt_of_le_of_lt, le_of_lt, lt_irrefl, mul-le-mul_right, zero-lt-suc, mul_assoc, add_comm, le_antisymm, mul-lt-mul_of_pos_right, mul-pos, one-mul, zero-mul, mul-one, mul_right_comm, mul-div_cancel, add-sub_cancel, arith, lit≤, le→leb, lt→ltb, pow_pos, pow_mono, pow-add, shl_lt, ltb-false, ltb-true, le-ltb, lt-ltb, eqb-true, le-leb}
 use native.Mathlib.Nat.{eq_of_mul-eq-mul_right}
 use borrow.Author.Tests.{clash}
 use borrow.Author.Differences.{ints}
@@ -8,7 +8,7 @@ use lib.Count.{count_leading_zeros, leading_top}
 use lib.Ieee.{Float, nan, inf, fin, binary64, prec, low, emax, up, down, size, fits, is_nan, le, lt, eq, level, nan_bits, of_bits}
 use Rattle.std.specs.Float.{float_is_finite}
 use lib.Ieee.Bits.{nan_bits_above, of_bits-fits}
-use lib.Ieee.Digits.{size-lt, size_le, back}
+use lib.Ieee.Digits.{size-lt, size-le, back}
 use lib.Ieee.Fits.{up_pos, and_i, and_l, and_r}
 use Rattle.double.specs.Double.{Number, units, magnitude, pattern, fraction, exponent, finite_nonzero, half, one, Splits}
 use Rattle.double.proofs.Scale.{lift, lift_scale, pow_le_back, ltb_scaled}
@@ -42,12 +42,12 @@ rejoin : (d : ℕ) → d ≤ 53 → d + (53 - d) ≡ 53
 rejoin d h = omega arith
 
 pub full_lt : (m : ℕ) → m < 2 ^ 53 → full m < 2 ^ 53
-full_lt m h = subst (λ (z : ℕ). full m < 2 ^ z) (rejoin (size m) (size_le m 53 h)) (shl_lt (size m) (53 - size m) (size-lt m))
+full_lt m h = subst (λ (z : ℕ). full m < 2 ^ z) (rejoin (size m) (size-le m 53 h)) (shl_lt (size m) (53 - size m) (size-lt m))
 
 pub full_ge : (m : ℕ) → 0 < m → m < 2 ^ 53 → 2 ^ 52 ≤ full m
 full_ge m p h =
     let t = top_digit m p in
-    le_trans (le_of_eq (ap (λ (z : ℕ). 2 ^ z) (places t.0 (size m) t.1 (size_le m 53 h)) ∙ pow_add 2 t.0 (53 - size m))) (mul-le-mul_right (2 ^ (53 - size m)) t.2)
+    le_trans (le_of_eq (ap (λ (z : ℕ). 2 ^ z) (places t.0 (size m) t.1 (size-le m 53 h)) ∙ pow-add 2 t.0 (53 - size m))) (mul-le-mul_right (2 ^ (53 - size m)) t.2)
   where
     places : (z d : ℕ) → d ≡ suc z → d ≤ 53 → 52 ≡ z + (53 - d)
     places z d e h = omega arith
@@ -73,7 +73,7 @@ fraction_same l m j q k hm hq lm lq e =
     spread : (a i : ℕ) → size a ≤ l → a * 2 ^ (l - size a) * 2 ^ (size a + i) ≡ a * 2 ^ i * 2 ^ l
     spread a i h =
         mul_assoc a (2 ^ (l - size a)) (2 ^ (size a + i))
-        ∙ ap (λ (z : ℕ). a * z) (sym (pow_add 2 (l - size a) (size a + i)) ∙ ap (λ (z : ℕ). 2 ^ z) (over l (size a) i h) ∙ pow_add 2 i l)
+        ∙ ap (λ (z : ℕ). a * z) (sym (pow-add 2 (l - size a) (size a + i)) ∙ ap (λ (z : ℕ). 2 ^ z) (over l (size a) i h) ∙ pow-add 2 i l)
         ∙ sym (mul_assoc a (2 ^ i) (2 ^ l))
       where
         over : (l d i : ℕ) → d ≤ l → l - d + (d + i) ≡ i + l
@@ -81,13 +81,13 @@ fraction_same l m j q k hm hq lm lq e =
 
 -- m × 2^-(digits of m) is a double
 below_power : (l : ℕ) (m z : ℕ) → m < 2 ^ z → m * 1 < 2 ^ l * 2 ^ z
-below_power l m z h = lt_of_le_of_lt (le_of_eq (mul-one m)) (lt_of_lt_of_le h (le_trans (le_of_eq (sym (one_mul (2 ^ z)))) (mul-le-mul_right (2 ^ z) (pow_pos l))))
+below_power l m z h = lt_of_le_of_lt (le_of_eq (mul-one m)) (lt_of_lt_of_le h (le_trans (le_of_eq (sym (one-mul (2 ^ z)))) (mul-le-mul_right (2 ^ z) (pow_pos l))))
 
 fraction_fits : (s : Bool) (m : ℕ) (e : ℤ) (z : ℕ) → size (suc m) ≡ suc z → T (fits binary64 (fin s (suc m) e)) → T (fits binary64 (fin false (suc m) (negsuc z)))
 unfolding fits
 fraction_fits s m e z q f =
     and_i _ _ (and_i _ _ (and_i _ _ (search (and_l, and_r)) (lt→ltb (suc m) (2 ^ 53) (fits_digits binary64 s (suc m) e f)))
-    (le→leb (2 ^ suc z) (2 ^ 1074) (pow_mono (le_trans (le_of_eq (sym q)) (le_trans (size_le (suc m) 53 (fits_digits binary64 s (suc m) e f)) few)))))
+    (le→leb (2 ^ suc z) (2 ^ 1074) (pow_mono (le_trans (le_of_eq (sym q)) (le_trans (size-le (suc m) 53 (fits_digits binary64 s (suc m) e f)) few)))))
     (lt→ltb (suc m * 1) (2 ^ 1024 * 2 ^ suc z) (below_power 1024 (suc m) (suc z) (subst (λ (x : ℕ). suc m < 2 ^ x) q (size-lt (suc m)))))
   where
     few : 53 ≤ 1074
@@ -99,7 +99,7 @@ negated d = neg_ℤ (pos d)
 holds_fraction : (l m z : ℕ) → suc z ≤ l → m * 1 * 2 ^ l ≡ m * 2 ^ (l - suc z) * 2 ^ suc z
 holds_fraction l m z h =
     ap (λ (x : ℕ). x * 2 ^ l) (mul-one m)
-    ∙ ap (λ (x : ℕ). m * x) (ap (λ (x : ℕ). 2 ^ x) (sym (back l (suc z) h)) ∙ pow_add 2 (l - suc z) (suc z))
+    ∙ ap (λ (x : ℕ). m * x) (ap (λ (x : ℕ). 2 ^ x) (sym (back l (suc z) h)) ∙ pow-add 2 (l - suc z) (suc z))
     ∙ sym (mul_assoc m (2 ^ (l - suc z)) (2 ^ suc z))
 
 -- the fraction of a finite number that is not zero: its units, and that it fits
@@ -114,11 +114,11 @@ fractional s m e f =
       fitting = subst (λ (d : ℕ). T (fits binary64 (fin false (suc m) (negated d)))) (sym t.1) (fraction_fits s m e t.0 t.1 f);
       holds =
           subst (λ (d : ℕ). Holds (fin false (suc m) (negated d)) (suc m * 2 ^ (1074 - d))) (sym t.1)
-          (refl, holds_fraction 1074 (suc m) t.0 (le_trans (le_of_eq (sym t.1)) (le_trans (size_le (suc m) 53 (fits_digits binary64 s (suc m) e f)) (lit≤ tt))));
+          (refl, holds_fraction 1074 (suc m) t.0 (le_trans (le_of_eq (sym t.1)) (le_trans (size-le (suc m) 53 (fits_digits binary64 s (suc m) e f)) (lit≤ tt))));
     }
 
 pub widen : (q : ℕ) → q < 2 ^ 53 → full q * 2 ^ 1021 ≡ q * 2 ^ (1074 - size q)
-widen q h = mul_assoc q (2 ^ (53 - size q)) (2 ^ 1021) ∙ ap (λ (x : ℕ). q * x) (sym (pow_add 2 (53 - size q) 1021) ∙ ap (λ (x : ℕ). 2 ^ x) (widened (size q) (size_le q 53 h)))
+widen q h = mul_assoc q (2 ^ (53 - size q)) (2 ^ 1021) ∙ ap (λ (x : ℕ). q * x) (sym (pow-add 2 (53 - size q) 1021) ∙ ap (λ (x : ℕ). 2 ^ x) (widened (size q) (size-le q 53 h)))
   where
     widened : (d : ℕ) → d ≤ 53 → 53 - d + 1021 ≡ 1074 - d
     widened d h = omega arith
@@ -131,7 +131,7 @@ fraction_bits s m e q k f p h w =
     ∙ read_back (fraction (fin s (suc m) e)) (suc m * 2 ^ (1074 - size (suc m))) (fractional s m e f).fitting (fractional s m e f).holds
   where
     few : (n : ℕ) → n < 2 ^ 53 → size n ≤ 1074
-    few n h = le_trans (size_le n 53 h) (lit≤ tt)
+    few n h = le_trans (size-le n 53 h) (lit≤ tt)
 
     same : full q * 2 ^ 1021 ≡ suc m * 2 ^ (1074 - size (suc m))
     same =
@@ -158,8 +158,8 @@ unlift : (l n : ℕ) → lift l (sub_ℕ n l) ≡ n
 unlift l n = go (ltb n l) refl
   where
     go : (b : Bool) → ltb n l ≡ b → lift l (cond b (negsuc (l - suc n)) (pos (n - l))) ≡ n
-    go true e = omega (arith, ltb_true n l e)
-    go false e = omega (arith, ltb_false n l e)
+    go true e = omega (arith, ltb-true n l e)
+    go false e = omega (arith, ltb-false n l e)
 
 unlift_low : (l n : ℕ) → down (sub_ℕ n l) ≤ 2 ^ l
 unlift_low l n = go (ltb n l) refl
@@ -168,14 +168,14 @@ unlift_low l n = go (ltb n l) refl
     fewer a b h = omega arith
 
     go : (b : Bool) → ltb n l ≡ b → down (cond b (negsuc (l - suc n)) (pos (n - l))) ≤ 2 ^ l
-    go true e = pow_mono (fewer n l (ltb_true n l e))
+    go true e = pow_mono (fewer n l (ltb-true n l e))
     go false e = pow_pos l
 
 made_up : (l m j d : ℕ) → d ≤ l → m * 2 ^ j * down (sub_ℕ (d + j) l) ≡ m * 2 ^ (l - d) * up (sub_ℕ (d + j) l)
 made_up l m j d h =
     eq_of_mul-eq-mul_right (2 ^ l) (pow_pos l) (m * 2 ^ j * down x) (m * 2 ^ (l - d) * up x)
     (mul_right_comm (m * 2 ^ j) (down x) (2 ^ l)
-    ∙ ap (λ (z : ℕ). z * down x) (mul_assoc m (2 ^ j) (2 ^ l) ∙ ap (λ (z : ℕ). m * z) (sym (pow_add 2 j l) ∙ ap (λ (z : ℕ). 2 ^ z) (places l d j h) ∙ pow_add 2 (l - d) (d + j)) ∙ sym (mul_assoc m (2 ^ (l - d)) (2 ^ (d + j))))
+    ∙ ap (λ (z : ℕ). z * down x) (mul_assoc m (2 ^ j) (2 ^ l) ∙ ap (λ (z : ℕ). m * z) (sym (pow-add 2 j l) ∙ ap (λ (z : ℕ). 2 ^ z) (places l d j h) ∙ pow-add 2 (l - d) (d + j)) ∙ sym (mul_assoc m (2 ^ (l - d)) (2 ^ (d + j))))
     ∙ mul_assoc (m * 2 ^ (l - d)) (2 ^ (d + j)) (down x)
     ∙ ap (λ (z : ℕ). m * 2 ^ (l - d) * z) (sym (lift_scale l x (unlift_low l (d + j)) ∙ ap (λ (z : ℕ). 2 ^ z * down x) (unlift l (d + j))))
     ∙ sym (mul_assoc (m * 2 ^ (l - d)) (up x) (2 ^ l)))
@@ -201,7 +201,7 @@ splits_exact : (s : Bool) (m : ℕ) (e : ℤ) → T (fits binary64 (fin s (suc m
     → units (fin s (suc m) e) * down (exponent (fin s (suc m) e)) ≡ units (fraction (fin s (suc m) e)) * up (exponent (fin s (suc m) e))
 splits_exact s m e f =
     ap₂ (λ (u : ℕ) (x : ℤ). u * down x) (units_lift s (suc m) e low) (lift_sum 1074 e (size (suc m)) low)
-    ∙ made_up 1074 (suc m) (lift 1074 e) (size (suc m)) (le_trans (size_le (suc m) 53 (fits_digits binary64 s (suc m) e f)) (lit≤ tt))
+    ∙ made_up 1074 (suc m) (lift 1074 e) (size (suc m)) (le_trans (size-le (suc m) 53 (fits_digits binary64 s (suc m) e f)) (lit≤ tt))
     ∙ sym (ap₂ (λ (u : ℕ) (x : ℤ). u * up x) (holds_units (fraction (fin s (suc m) e)) _ (fractional s m e f).holds) (lift_sum 1074 e (size (suc m)) low))
   where
     low : down e ≤ 2 ^ 1074
@@ -211,7 +211,7 @@ splits_fin : (s : Bool) (m : ℕ) (e : ℤ) → T (fits binary64 (fin s (suc m) 
 unfolding fits is_nan units
 splits_fin s m e f = record {
   at_least_half = subst T (sym (le_units half (fraction (fin s (suc m) e)) (tt, tt) plain ∙ le-leb _ _ (le_trans (mul-le-mul_right (2 ^ 1021) (full_ge (suc m) (zero-lt-suc m) digits)) (le_of_eq (sym shifted))))) tt;
-  below_one = subst T (sym (lt_units (fraction (fin s (suc m) e)) one plain (tt, tt) ∙ lt-ltb _ _ (lt_of_le_of_lt (le_of_eq shifted) (mul_lt_mul_of_pos_right (full_lt (suc m) digits) (pow_pos 1021))))) tt;
+  below_one = subst T (sym (lt_units (fraction (fin s (suc m) e)) one plain (tt, tt) ∙ lt-ltb _ _ (lt_of_le_of_lt (le_of_eq shifted) (mul-lt-mul_of_pos_right (full_lt (suc m) digits) (pow_pos 1021))))) tt;
   exact = splits_exact s m e f;
 }
   where
@@ -294,7 +294,7 @@ normal_bits n l h = record {
     f = of_bits binary64 (1021 * 2 ^ 52 + n)
 
     few : n * 2 ^ 1021 < 2 ^ 2098
-    few = lt_of_lt_of_le (mul_lt_mul_of_pos_right h (pow_pos 1021)) (le_trans (le_of_eq (sym (pow_add 2 53 1021))) (pow_mono {i = 1074} {j = 2098} (lit≤ tt)))
+    few = lt_of_lt_of_le (mul-lt-mul_of_pos_right h (pow_pos 1021)) (le_trans (le_of_eq (sym (pow-add 2 53 1021))) (pow_mono {i = 1074} {j = 2098} (lit≤ tt)))
 
     holds : Holds f (n * 2 ^ 1021)
     holds =

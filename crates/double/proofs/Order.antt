@@ -1,6 +1,6 @@
 -- The order of two magnitudes is the order of their units.
 -- Numbers as 2^1074 stay behind a format's name, since a numeral of so many digits is too long for the arithmetic tactics.
-use Rattle.std.proofs.Common.{◌≡◌, ℕ, zero, suc, ◌+◌, ◌-◌, ◌*◌, ◌/◌, ◌%◌, ◌^◌, ◌<◌, ◌≤◌, Bool, true, false, not, ◌&&◌, ◌||◌, T, eqb, ltb, leb, ℤ, pos, negsuc, sym, refl, ap, ◌∙◌, ap₂, le_trans, le_of_eq, lt_of_lt_of_le, lt_of_le_of_lt, le_of_lt, lt_irrefl, mul-le-mul_right, mul_assoc, mul_comm, lt_of_mul-lt-mul_right, mul_lt_mul_of_pos_right, mul-pos, one_mul, zero-mul, mul-one, mul_right_comm, arith, eqb→eq, ltb→lt, leb→le, pow_pos, pow_add, ltb_false, ltb_true, le-ltb, lt-ltb, eq_eqb, ne_eqb, eqb-true, le-leb}
+use Rattle.std.proofs.Common.{◌≡◌, ℕ, zero, suc, ◌+◌, ◌-◌, ◌*◌, ◌/◌, ◌%◌, ◌^◌, ◌<◌, ◌≤◌, Bool, true, false, not, ◌&&◌, ◌||◌, T, eqb, ltb, leb, ℤ, pos, negsuc, sym, refl, ap, ◌∙◌, ap₂, le_trans, le_of_eq, lt_of_lt_of_le, lt_of_le_of_lt, le_of_lt, lt_irrefl, mul-le-mul_right, mul_assoc, mul_comm, lt_of_mul-lt-mul_right, mul-lt-mul_of_pos_right, mul-pos, one-mul, zero-mul, mul-one, mul_right_comm, arith, eqb→eq, ltb→lt, leb→le, pow_pos, pow-add, ltb-false, ltb-true, le-ltb, lt-ltb, eq-eqb, ne_eqb, eqb-true, le-leb}
 use borrow.Author.Tests.{eqb-false, lt-leb}
 use lib.Ieee.{Float, nan, inf, fin, Format, binary64, prec, emax, low, up, down, fits, lt, le, eq, is_nan}
 use lib.Ieee.Fits.{and_l, and_r, up_pos, down_pos}
@@ -26,7 +26,7 @@ fits_digits f s zero e h = pow_pos (prec f)
 fits_digits f s (suc m) e h = ltb→lt (suc m) (2 ^ prec f) (search (and_l, and_r, fits_odd))
 
 pub fits_low : (f : Format) (s : Bool) (m : ℕ) (e : ℤ) → T (fits f (fin s m e)) → down e ≤ 2 ^ low f
-fits_low f s zero e h = le_trans (le_of_eq (sym (one_mul (down e)))) (le_trans (mul-le-mul_right (down e) (up_pos e)) (le_trans (le_of_eq (fits_zero f s e h)) (pow_pos (low f))))
+fits_low f s zero e h = le_trans (le_of_eq (sym (one-mul (down e)))) (le_trans (mul-le-mul_right (down e) (up_pos e)) (le_trans (le_of_eq (fits_zero f s e h)) (pow_pos (low f))))
 fits_low f s (suc m) e h = leb→le (down e) (2 ^ low f) (search (and_l, and_r, fits_odd))
 
 pub fits_high : (f : Format) (s : Bool) (m : ℕ) (e : ℤ) → T (fits f (fin s m e)) → m * up e < 2 ^ suc (emax f) * down e
@@ -49,7 +49,7 @@ units_lift s m e h = lift_units 1074 m e h
 under : (a l m u : ℕ) (e : ℤ) → u * down e ≡ m * up e * 2 ^ l → m * up e < 2 ^ a * down e → u < 2 ^ (a + l)
 under a l m u e q h =
     lt_of_mul-lt-mul_right (down e)
-    (lt_of_le_of_lt (le_of_eq q) (lt_of_lt_of_le (mul_lt_mul_of_pos_right h (pow_pos l)) (le_of_eq (mul_right_comm (2 ^ a) (down e) (2 ^ l) ∙ ap (λ (x : ℕ). x * down e) (sym (pow_add 2 a l))))))
+    (lt_of_le_of_lt (le_of_eq q) (lt_of_lt_of_le (mul-lt-mul_of_pos_right h (pow_pos l)) (le_of_eq (mul_right_comm (2 ^ a) (down e) (2 ^ l) ∙ ap (λ (x : ℕ). x * down e) (sym (pow-add 2 a l))))))
 
 pub units_under : (s : Bool) (m : ℕ) (e : ℤ) → T (fits binary64 (fin s m e)) → units (fin s m e) < 2 ^ 2098
 units_under s m e h = under 1024 1074 m (units (fin s m e)) e (units_exact s m e h) (fits_high binary64 s m e h)
@@ -100,7 +100,7 @@ pub eq_units : (x y : Float) → Number x → Number y → eq (magnitude x) (mag
 unfolding eq is_nan
 eq_units nan y hx hy = absurd hx.1
 eq_units (inf s) nan hx hy = absurd hy.1
-eq_units (inf s) (inf t) hx hy = sym (eq_eqb (units (inf s)) (units (inf t)) (infinite s ∙ sym (infinite t)))
+eq_units (inf s) (inf t) hx hy = sym (eq-eqb (units (inf s)) (units (inf t)) (infinite s ∙ sym (infinite t)))
 eq_units (inf s) (fin t n d) hx hy = sym (ne_eqb (units (inf s)) (units (fin t n d)) (λ q. lt_irrefl (units (inf s)) (lt_of_le_of_lt (le_of_eq q) (under_infinite t s n d hy.0))))
 eq_units (fin s m e) nan hx hy = absurd hy.1
 eq_units (fin s m e) (inf t) hx hy = sym (ne_eqb (units (fin s m e)) (units (inf t)) (λ q. lt_irrefl (units (inf t)) (lt_of_le_of_lt (le_of_eq (sym q)) (under_infinite s t m e hx.0))))

@@ -1,5 +1,5 @@
 -- A power of two as a whole number of units of 2^-l, and comparisons that a common factor leaves as they are.
-use Rattle.std.proofs.Common.{◌≡◌, ℕ, zero, suc, ◌+◌, ◌-◌, ◌*◌, ◌/◌, ◌^◌, ◌<◌, ◌≤◌, Bool, true, false, ◌||◌, T, eqb, ltb, leb, ℤ, pos, negsuc, sym, refl, ap, ◌∙◌, le_refl, lt_of_lt_of_le, le_of_suc_le_suc, lt_irrefl, mul-le-mul_right, mul_assoc, mul_comm, lt_of_mul-lt-mul_right, mul_lt_mul_of_pos_right, one_mul, lt_of_not_le, mul-one, mul_right_comm, le_of_mul-le-mul_right, mul-div_cancel, arith, pow_pos, pow_mono, pow_add, ltb_false, ltb_true, le-ltb, lt-ltb, eq_eqb, ne_eqb, eqb-true, le-leb}
+use Rattle.std.proofs.Common.{◌≡◌, ℕ, zero, suc, ◌+◌, ◌-◌, ◌*◌, ◌/◌, ◌^◌, ◌<◌, ◌≤◌, Bool, true, false, ◌||◌, T, eqb, ltb, leb, ℤ, pos, negsuc, sym, refl, ap, ◌∙◌, le_refl, lt_of_lt_of_le, le_of_suc-le-suc, lt_irrefl, mul-le-mul_right, mul_assoc, mul_comm, lt_of_mul-lt-mul_right, mul-lt-mul_of_pos_right, one-mul, lt_of_not-le, mul-one, mul_right_comm, le_of_mul-le-mul_right, mul-div_cancel, arith, pow_pos, pow_mono, pow-add, ltb-false, ltb-true, le-ltb, lt-ltb, eq-eqb, ne_eqb, eqb-true, le-leb}
 use native.Mathlib.Nat.{eq_of_mul-eq-mul_right}
 use borrow.Author.Tests.{eqb-false, lt-leb}
 use lib.Pow.{pow-lt}
@@ -13,11 +13,11 @@ lift l (pos k) = k + l
 lift l (negsuc k) = l - suc k
 
 pub pow_le_back : (a l : ℕ) → 2 ^ a ≤ 2 ^ l → a ≤ l
-pow_le_back a l h = le_of_suc_le_suc (lt_of_not_le (λ (g : suc l ≤ a). lt_irrefl (2 ^ l) (lt_of_lt_of_le (pow-lt g) h)))
+pow_le_back a l h = le_of_suc-le-suc (lt_of_not-le (λ (g : suc l ≤ a). lt_irrefl (2 ^ l) (lt_of_lt_of_le (pow-lt g) h)))
 
 pub lift_scale : (l : ℕ) (e : ℤ) → down e ≤ 2 ^ l → up e * 2 ^ l ≡ 2 ^ lift l e * down e
-lift_scale l (pos k) h = sym (pow_add 2 k l) ∙ sym (mul-one (2 ^ (k + l)))
-lift_scale l (negsuc k) h = one_mul (2 ^ l) ∙ ap (λ (x : ℕ). 2 ^ x) (sym (back l (suc k) (pow_le_back (suc k) l h))) ∙ pow_add 2 (l - suc k) (suc k)
+lift_scale l (pos k) h = sym (pow-add 2 k l) ∙ sym (mul-one (2 ^ (k + l)))
+lift_scale l (negsuc k) h = one-mul (2 ^ l) ∙ ap (λ (x : ℕ). 2 ^ x) (sym (back l (suc k) (pow_le_back (suc k) l h))) ∙ pow-add 2 (l - suc k) (suc k)
 
 pub lift_exact : (l m : ℕ) (e : ℤ) → down e ≤ 2 ^ l → m * up e * 2 ^ l ≡ m * 2 ^ lift l e * down e
 lift_exact l m e h = mul_assoc m (up e) (2 ^ l) ∙ ap (λ (x : ℕ). m * x) (lift_scale l e h) ∙ sym (mul_assoc m (2 ^ lift l e) (down e))
@@ -31,14 +31,14 @@ pub ltb_scaled : (a b c : ℕ) → 0 < c → ltb (a * c) (b * c) ≡ ltb a b
 ltb_scaled a b c h = go (ltb a b) refl
   where
     go : (t : Bool) → ltb a b ≡ t → ltb (a * c) (b * c) ≡ t
-    go true e = lt-ltb (a * c) (b * c) (mul_lt_mul_of_pos_right (ltb_true a b e) h)
-    go false e = le-ltb (a * c) (b * c) (mul-le-mul_right c (ltb_false a b e))
+    go true e = lt-ltb (a * c) (b * c) (mul-lt-mul_of_pos_right (ltb-true a b e) h)
+    go false e = le-ltb (a * c) (b * c) (mul-le-mul_right c (ltb-false a b e))
 
 pub eqb_scaled : (a b c : ℕ) → 0 < c → eqb (a * c) (b * c) ≡ eqb a b
 eqb_scaled a b c h = go (eqb a b) refl
   where
     go : (t : Bool) → eqb a b ≡ t → eqb (a * c) (b * c) ≡ t
-    go true e = eq_eqb (a * c) (b * c) (ap (λ (x : ℕ). x * c) (eqb-true a b e))
+    go true e = eq-eqb (a * c) (b * c) (ap (λ (x : ℕ). x * c) (eqb-true a b e))
     go false e = ne_eqb (a * c) (b * c) (λ q. eqb-false a b e (eq_of_mul-eq-mul_right c h a b q))
 
 pub ltb_or_eqb : (a b : ℕ) → (ltb a b || eqb a b) ≡ leb a b

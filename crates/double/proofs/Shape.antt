@@ -1,8 +1,8 @@
 -- The bits of a finite double that is not zero: q × 2^k units are written as k × 2^52 + q.
-use Rattle.std.proofs.Common.{◌≡◌, ℕ, zero, suc, ◌+◌, ◌-◌, ◌*◌, ◌/◌, ◌%◌, ◌^◌, ◌<◌, ◌≤◌, Bool, true, false, cond, not, T, ◌⊎◌, ℤ, pos, negsuc, sym, refl, ap, ◌∙◌, subst, ap₂, inl, inr, ⊎_elim, le_trans, le_of_eq, lt_of_lt_of_le, lt_of_le_of_lt, le_of_lt, lt_irrefl, zero-lt-suc, eq-zero-or-pos, le_antisymm, mul-pos, le-div_iff_mul-le, zero-mul, arith, pow_pos, pow_add, le-ltb}
+use Rattle.std.proofs.Common.{◌≡◌, ℕ, zero, suc, ◌+◌, ◌-◌, ◌*◌, ◌/◌, ◌%◌, ◌^◌, ◌<◌, ◌≤◌, Bool, true, false, cond, not, T, ◌⊎◌, ℤ, pos, negsuc, sym, refl, ap, ◌∙◌, subst, ap₂, inl, inr, ⊎_elim, le_trans, le_of_eq, lt_of_lt_of_le, lt_of_le_of_lt, le_of_lt, lt_irrefl, zero-lt-suc, eq-zero-or-pos, le_antisymm, mul-pos, le-div_iff_mul-le, zero-mul, arith, pow_pos, pow-add, le-ltb}
 use lib.Ieee.{Float, nan, inf, fin, binary64, size, fits, is_nan, to_bits, nan_bits}
 use lib.Ieee.Bits.{nan_bits_above}
-use lib.Ieee.Digits.{size_le, size_reaches}
+use lib.Ieee.Digits.{size-le, size_reaches}
 use lib.Ieee.Fits.{kept-lt}
 use Rattle.double.specs.Double.{units, finite_nonzero}
 use Rattle.double.proofs.Scale.{lift}
@@ -50,7 +50,7 @@ shape (fin s (suc m) e) f h = record {
   bits = ap (λ (b : ℕ). b % 2 ^ 63) (unit_bits s (suc m) e) ∙ unsigned s (z - 53) (n / 2 ^ (z - 53)) short (kept-lt 53 n);
   whole = exact;
   digits = kept-lt 53 n;
-  leading = ⊎_elim inl (λ g. inr ((le-div_iff_mul-le (pow_pos (z - 53))).1 (le_trans (le_of_eq (sym (pow_add 2 52 (z - 53)))) (size_reaches n (52 + (z - 53)) (at_top z g))))) (eq-zero-or-pos (z - 53));
+  leading = ⊎_elim inl (λ g. inr ((le-div_iff_mul-le (pow_pos (z - 53))).1 (le_trans (le_of_eq (sym (pow-add 2 52 (z - 53)))) (size_reaches n (52 + (z - 53)) (at_top z g))))) (eq-zero-or-pos (z - 53));
   small = short;
   nonzero = factor (n / 2 ^ (z - 53)) (2 ^ (z - 53)) (lt_of_lt_of_le (mul-pos (zero-lt-suc m) (pow_pos (lift 1074 e))) (le_of_eq (sym (exact ∙ lifted))));
 }
@@ -68,7 +68,7 @@ shape (fin s (suc m) e) f h = record {
     exact = le_antisymm (kept_le n) (le_trans (le_of_eq lifted) (kept_largest n (suc m) (lift 1074 e) (fits_digits binary64 s (suc m) e f) (le_of_eq (sym lifted))))
 
     short : z - 53 ≤ 2045
-    short = few z (size_le n 2098 (units_under s (suc m) e f))
+    short = few z (size-le n 2098 (units_under s (suc m) e f))
 
 -- ---- taken apart: by the field of the exponent
 

@@ -1,4 +1,6 @@
 // Exact doubles: the fraction and the exponent of a magnitude.
+#![tactic(auto)]
+
 ghost use Rattle.std.specs.Prelude.{◌≡◌, ◌+◌, ◌-◌, ◌*◌, ◌^◌, ◌<◌, not, T, pos, negsuc, ◌≤ℤ◌, from_bits};
 ghost use Rattle.std.specs.Float.{binary64};
 ghost use Rattle.std.specs.Float.Ieee.{size};

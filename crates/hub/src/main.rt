@@ -2,6 +2,8 @@
 // on, it adds the bound of the highest occupied bucket of that plug's histogram to the running load.
 // The program reads a log from standard input, files each reading under its plug and says what it did. HELP has
 // the form of the log.
+#![tactic(auto)]
+
 mod chosen;
 mod filing;
 mod hubs;

@@ -1,4 +1,6 @@
 // Bucket indices: the range that a store accepts, and an index one schema coarser.
+#![tactic(auto)]
+
 ghost use Rattle.std.specs.Prelude.{◌≡◌};
 ghost use Rattle.index.specs.Index.{in_index_range, halved, Halves};
 

@@ -2,7 +2,7 @@
 use Rattle.std.proofs.Common.{◌≡◌, ℕ, zero, suc, ◌+◌, ◌-◌, ◌<◌, ◌≤◌, ◌≢◌, List, [], ◌∷◌, ◌++◌, length, get_or, take, drop, set, sym, refl, ap, ◌∙◌, add-one, arith}
 use lib.Seq.{take-set-lt}
 use Rattle.std.specs.List.{insert}
-use Rattle.std.proofs.lemmas.List.{length-take-le, length-drop, take_all, take_at, take_more, drop_all, drop_more, drop-take, set_at, get_or-take, get_or-drop, get_or_set_other, get_or-append_right, append_assoc}
+use Rattle.std.proofs.lemmas.List.{length-take-le, length-drop, take_all, take_at, take_more, drop_all, drop_more, drop-take, set_at, get_or-take, get_or-drop, get_or-set_other, get_or-append_right, append_assoc}
 use Rattle.std.proofs.lemmas.List.Edits.{get_or-insert_below}
 
 module _ {X : Type 0} where
@@ -34,7 +34,7 @@ module _ {X : Type 0} where
       ∙ ap (λ zs. get_or zs m d) h
       ∙ get_or-insert_below (take n xs) (m + 1) _ d m (omega arith) (omega arith) in
       let kept : get_or (set ys (m + 1) (get_or ys m d)) m d ≡ get_or ys m d =
-      get_or_set_other ys (m + 1) m _ d (let ne : m ≢ m + 1 = λ e. omega arith in ne) in
+      get_or-set_other ys (m + 1) m _ d (let ne : m ≢ m + 1 = λ e. omega arith in ne) in
       take-set-lt (n + 1) ys (m + 1) (get_or ys m d) (omega arith)
       ∙ ap (λ zs. set zs (m + 1) (get_or ys m d)) h
       ∙ set_inserted (take n xs) (m + 1) _ _ (omega arith)

@@ -1,4 +1,6 @@
 // A row: a table of 320 pairs (index, count), lowest index first, that lists the first `size` of them.
+#![tactic(auto)]
+
 ghost use Rattle.std.specs.Prelude.{◌≡◌, ◌^◌, ◌<◌, ◌≤◌, T, length, take};
 ghost use Rattle.store.specs.Pairs.{rising, counted, ranged, total as all-counts};
 

@@ -2,7 +2,7 @@
 use Rattle.std.specs.Prelude.{◌≡◌, ℕ, ◌+◌, ◌-◌, ◌%◌, ◌<◌, ◌≤◌, List, length, replicate, ◌≢◌, slice_index, slice_set}
 use Rattle.std.proofs.Common.{ap, ◌∙◌, arith}
 use Rattle.std.proofs.lemmas.Nat.{mod_below}
-use Rattle.std.proofs.lemmas.List.{get_or-set_same, get_or_set_other, get_or-replicate}
+use Rattle.std.proofs.lemmas.List.{get_or-set_same, get_or-set_other, get_or-replicate}
 use Rattle.run.specs.Window.{counter}
 
 -- positions less than 512 apart have places of their own
@@ -39,7 +39,7 @@ counter_set_same cs i v e = get_or-set_same cs (i % 512) v 0 (let h = mod_below 
 
 pub counter_set_other : (cs : List ℕ) (a i k v : ℕ) → a ≤ i → i < a + 512 → a ≤ k → k < a + 512 → (k ≢ i) → counter (slice_set cs (i % 512) v) k ≡ counter cs k
 counter_set_other cs a i k v h l u w n =
-    get_or_set_other cs (i % 512) (k % 512) v 0 (λ e. n (place_apart a i k h l u w e))
+    get_or-set_other cs (i % 512) (k % 512) v 0 (λ e. n (place_apart a i k h l u w e))
 
 pub counter_replicate : (k : ℕ) → counter (replicate 512 0) k ≡ 0
 counter_replicate k = get_or-replicate 512 (k % 512) 0 0 (mod_below k 512 (omega arith))

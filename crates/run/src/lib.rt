@@ -1,4 +1,6 @@
 // A run: a bucket store of 512 counters for consecutive indices.
+#![tactic(auto)]
+
 ghost use Rattle.std.specs.Prelude.{◌≡◌, ℕ, ◌+◌, ◌-◌, ◌^◌, ◌<◌, ◌≤◌, length};
 ghost use Rattle.store.specs.Pairs.{total as total_of};
 ghost use Rattle.run.specs.Window.{positions, counter, listing};

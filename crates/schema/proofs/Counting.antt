@@ -1,5 +1,5 @@
 -- How many entries of a table are below a fraction: the place where the fraction's bucket is.
-use Rattle.std.proofs.Common.{◌≡◌, ℕ, zero, suc, ◌+◌, ◌-◌, ◌*◌, ◌^◌, ◌<◌, ◌≤◌, Bool, true, false, cond, ◌&&◌, T, eqb, ltb, List, [], ◌∷◌, length, get_or, sym, refl, ap, ◌∙◌, subst, ap₂, ⊎_elim, suc-le-suc, zero-le, le_trans, le_of_eq, le_refl, lt_of_lt_of_le, le_of_suc_le_suc, not-suc-le-zero, lt_of_le_of_lt, le_of_lt, add-one, one-add, arith, eqb→eq, ltb→lt, ltb_false, ltb_true, le-ltb, lt-ltb}
+use Rattle.std.proofs.Common.{◌≡◌, ℕ, zero, suc, ◌+◌, ◌-◌, ◌*◌, ◌^◌, ◌<◌, ◌≤◌, Bool, true, false, cond, ◌&&◌, T, eqb, ltb, List, [], ◌∷◌, length, get_or, sym, refl, ap, ◌∙◌, subst, ap₂, ⊎_elim, suc-le-suc, zero-le, le_trans, le_of_eq, le_refl, lt_of_lt_of_le, le_of_suc-le-suc, not-suc-le-zero, lt_of_le_of_lt, le_of_lt, add-one, one-add, arith, eqb→eq, ltb→lt, ltb-false, ltb-true, le-ltb, lt-ltb}
 use Rattle.std.proofs.lemmas.Bool.{cases_lt}
 use lib.Ieee.{Float, lt}
 use Rattle.double.proofs.Fraction.{Normal, normal_bits, normal_lt}
@@ -20,19 +20,19 @@ pub record Parted (n : ℕ) (ns : List ℕ) (j : ℕ) : Type 0 where
 
 from_least : (n x : ℕ) (xs : List ℕ) → T (rising_from x xs) → n ≤ x → (k : ℕ) → k < length (x ∷ xs) → n ≤ get_or (x ∷ xs) k 0
 from_least n x xs h l zero g = l
-from_least n x [] h l (suc k) g = absurd (not-suc-le-zero (le_of_suc_le_suc g))
-from_least n x (y ∷ ys) h l (suc k) g = from_least n y ys (and_right (ltb x y) (rising_from y ys) h) (le_trans l (le_of_lt (ltb→lt x y (and_left (ltb x y) (rising_from y ys) h)))) k (le_of_suc_le_suc g)
+from_least n x [] h l (suc k) g = absurd (not-suc-le-zero (le_of_suc-le-suc g))
+from_least n x (y ∷ ys) h l (suc k) g = from_least n y ys (and_right (ltb x y) (rising_from y ys) h) (le_trans l (le_of_lt (ltb→lt x y (and_left (ltb x y) (rising_from y ys) h)))) k (le_of_suc-le-suc g)
 
 parted_more : (n x : ℕ) (ns : List ℕ) (j : ℕ) → x < n → Parted n ns j → Parted n (x ∷ ns) (suc j)
 parted_more n x ns j l p = record { within = suc-le-suc p.within; before = before; after = after }
   where
     before : (k : ℕ) → k < suc j → get_or (x ∷ ns) k 0 < n
     before zero a = l
-    before (suc k) a = p.before k (le_of_suc_le_suc a)
+    before (suc k) a = p.before k (le_of_suc-le-suc a)
 
     after : (k : ℕ) → suc j ≤ k → k < suc (length ns) → n ≤ get_or (x ∷ ns) k 0
     after zero a b = absurd (not-suc-le-zero a)
-    after (suc k) a b = p.after k (le_of_suc_le_suc a) (le_of_suc_le_suc b)
+    after (suc k) a b = p.after k (le_of_suc-le-suc a) (le_of_suc-le-suc b)
 
 -- the count is the place, whatever the order of the list
 pub parted_count : (n : ℕ) (ns : List ℕ) (j : ℕ) → Parted n ns j → count_below n ns ≡ j
@@ -43,7 +43,7 @@ parted_count n (x ∷ xs) zero p =
     (parted_count n xs zero (record { within = zero-le; before = λ k a. absurd (not-suc-le-zero a); after = λ k a b. p.after (suc k) zero-le (suc-le-suc b) }))
 parted_count n (x ∷ xs) (suc j) p =
     ap₂ (λ (b : Bool) (k : ℕ). cond b 1 0 + k) (lt-ltb x n (p.before zero (suc-le-suc zero-le)))
-    (parted_count n xs j (record { within = le_of_suc_le_suc p.within; before = λ k a. p.before (suc k) (suc-le-suc a); after = λ k a b. p.after (suc k) (suc-le-suc a) (suc-le-suc b) }))
+    (parted_count n xs j (record { within = le_of_suc-le-suc p.within; before = λ k a. p.before (suc k) (suc-le-suc a); after = λ k a b. p.after (suc k) (suc-le-suc a) (suc-le-suc b) }))
     ∙ one-add j
 
 -- in a rising list there is such a place

@@ -1,5 +1,5 @@
 -- Whole numbers divided by d, rounded down: i is d times its quotient, plus its remainder, and only so.
-use Rattle.std.proofs.Common.{◌≡◌, ℕ, zero, suc, ◌+◌, ◌-◌, ◌*◌, ◌/◌, ◌%◌, ◌^◌, ◌<◌, ◌≤◌, ◌⊎◌, ℤ, pos, negsuc, ◌+ℤ◌, ◌-ℤ◌, ◌*ℤ◌, neg_ℤ, ◌≤ℤ◌, ◌<ℤ◌, sym, refl, ap, ◌∙◌, subst, ap₂, inl, inr, mod-lt, suc-mul, add-mul, one_mul, div-add-mod', zero-mul, mul_left_comm, arith}
+use Rattle.std.proofs.Common.{◌≡◌, ℕ, zero, suc, ◌+◌, ◌-◌, ◌*◌, ◌/◌, ◌%◌, ◌^◌, ◌<◌, ◌≤◌, ◌⊎◌, ℤ, pos, negsuc, ◌+ℤ◌, ◌-ℤ◌, ◌*ℤ◌, neg_ℤ, ◌≤ℤ◌, ◌<ℤ◌, sym, refl, ap, ◌∙◌, subst, ap₂, inl, inr, mod-lt, suc-mul, add-mul, one-mul, div-add-mod', zero-mul, mul_left_comm, arith}
 use borrow.Author.Differences.{ints, product_is}
 use lib.Arith.{digits_div, digits_mod}
 use Rattle.index.specs.Index.{quotient, remainder}
@@ -33,8 +33,8 @@ divided d (negsuc n) h = omega (arith, ints, suc-mul (n / d) d, div-add-mod' n d
 -- ---- multiples
 
 pub next_multiple : (k : ℤ) (d : ℕ) → (k +ℤ pos 1) *ℤ pos d ≡ k *ℤ pos d +ℤ pos d
-next_multiple (pos q) d = omega (arith, ints, add-mul q 1 d, one_mul d)
-next_multiple (negsuc zero) d = omega (arith, ints, one_mul d, zero-mul d)
+next_multiple (pos q) d = omega (arith, ints, add-mul q 1 d, one-mul d)
+next_multiple (negsuc zero) d = omega (arith, ints, one-mul d, zero-mul d)
 next_multiple (negsuc (suc q)) d = ap (λ (k : ℤ). k *ℤ pos d) (up_one q) ∙ omega (arith, ints, suc-mul (suc q) d)
   where
     up_one : (q : ℕ) → negsuc (suc q) +ℤ pos 1 ≡ negsuc q

@@ -1,5 +1,5 @@
 -- Every number other than zero lies in the bucket of its index, and in no other; a coarser schema halves the index; the range of indices.
-use Rattle.std.proofs.Common.{◌≡◌, ℕ, zero, suc, ◌+◌, ◌-◌, ◌*◌, ◌/◌, ◌^◌, ◌<◌, ◌≤◌, Bool, true, false, cond, not, ◌&&◌, T, ltb, leb, ◌⊎◌, ℤ, pos, negsuc, ◌+ℤ◌, ◌-ℤ◌, ◌≤ℤ◌, ◌<ℤ◌, sym, refl, ap, ◌∙◌, subst, ap₂, inl, inr, ⊎_elim, le_trans, le_of_eq, lt_of_lt_of_le, not-suc-le-zero, lt_of_le_of_lt, le_of_lt, lt_irrefl, le-div_iff_mul-le, arith, le→leb, ltb→lt, lt→ltb, leb→le, ltb_true, lt-ltb, le-leb, leb-true}
+use Rattle.std.proofs.Common.{◌≡◌, ℕ, zero, suc, ◌+◌, ◌-◌, ◌*◌, ◌/◌, ◌^◌, ◌<◌, ◌≤◌, Bool, true, false, cond, not, ◌&&◌, T, ltb, leb, ◌⊎◌, ℤ, pos, negsuc, ◌+ℤ◌, ◌-ℤ◌, ◌≤ℤ◌, ◌<ℤ◌, sym, refl, ap, ◌∙◌, subst, ap₂, inl, inr, ⊎_elim, le_trans, le_of_eq, lt_of_lt_of_le, not-suc-le-zero, lt_of_le_of_lt, le_of_lt, lt_irrefl, le-div_iff_mul-le, arith, le→leb, ltb→lt, lt→ltb, leb→le, ltb-true, lt-ltb, le-leb, leb-true}
 use borrow.Author.Differences.{ints}
 use lib.Signed.{le_z, lt_z}
 use lib.Ieee.{Float, nan, inf, fin, binary64, fits, is_nan, lt, le, up, down}

@@ -1,5 +1,5 @@
 -- The tables' rules at each entry, from the one test of all nine tables.
-use Rattle.std.proofs.Common.{◌≡◌, ℕ, zero, suc, ◌+◌, ◌-◌, ◌*◌, ◌^◌, ◌<◌, ◌≤◌, Bool, true, false, ◌&&◌, T, eqb, ltb, List, [], ◌∷◌, length, get_or, sym, refl, ap, ◌∙◌, subst, le_trans, lt_trans, le_of_eq, lt_of_lt_of_le, le_of_suc_le_suc, not-suc-le-zero, add-zero, le_of_lt, lt_irrefl, zero-add, add-one, arith, eqb→eq, ltb→lt, pow_pos}
+use Rattle.std.proofs.Common.{◌≡◌, ℕ, zero, suc, ◌+◌, ◌-◌, ◌*◌, ◌^◌, ◌<◌, ◌≤◌, Bool, true, false, ◌&&◌, T, eqb, ltb, List, [], ◌∷◌, length, get_or, sym, refl, ap, ◌∙◌, subst, le_trans, lt_trans, le_of_eq, lt_of_lt_of_le, le_of_suc-le-suc, not-suc-le-zero, add-zero, le_of_lt, lt_irrefl, zero-add, add-one, arith, eqb→eq, ltb→lt, pow_pos}
 use Rattle.schema.specs.Tables.{tables, table, entry, rising_from, proper, thins, thins_next, lawful_from, TableRules}
 
 pub and_left : (a b : Bool) → T (a && b) → T a
@@ -15,13 +15,13 @@ and_right false b h = absurd h
 rising_at : (x : ℕ) (xs : List ℕ) → T (rising_from x xs) → (j : ℕ) → j < length xs → get_or (x ∷ xs) j 0 < get_or xs j 0
 rising_at x [] h j g = absurd (not-suc-le-zero g)
 rising_at x (y ∷ ys) h zero g = ltb→lt x y (and_left (ltb x y) (rising_from y ys) h)
-rising_at x (y ∷ ys) h (suc j) g = rising_at y ys (and_right (ltb x y) (rising_from y ys) h) j (le_of_suc_le_suc g)
+rising_at x (y ∷ ys) h (suc j) g = rising_at y ys (and_right (ltb x y) (rising_from y ys) h) j (le_of_suc-le-suc g)
 
 rising_below : (x : ℕ) (xs : List ℕ) → T (rising_from x xs) → (j : ℕ) → j < suc (length xs) → get_or (x ∷ xs) j 0 < 2 ^ 53
 rising_below x [] h zero g = ltb→lt x (2 ^ 53) h
-rising_below x [] h (suc j) g = absurd (not-suc-le-zero (le_of_suc_le_suc g))
+rising_below x [] h (suc j) g = absurd (not-suc-le-zero (le_of_suc-le-suc g))
 rising_below x (y ∷ ys) h zero g = lt_trans (ltb→lt x y (and_left (ltb x y) (rising_from y ys) h)) (rising_below y ys (and_right (ltb x y) (rising_from y ys) h) zero (omega arith))
-rising_below x (y ∷ ys) h (suc j) g = rising_below y ys (and_right (ltb x y) (rising_from y ys) h) j (le_of_suc_le_suc g)
+rising_below x (y ∷ ys) h (suc j) g = rising_below y ys (and_right (ltb x y) (rising_from y ys) h) j (le_of_suc-le-suc g)
 
 thins_at : (us zs : List ℕ) → T (thins us zs) → (j : ℕ) → get_or us (2 * j) 0 ≡ get_or zs j 0
 thins_at [] [] h j = refl
@@ -77,7 +77,7 @@ rules_from a (t ∷ ts) h zero g =
     rest n = omega arith
 rules_from a (t ∷ ts) h (suc k) g =
     subst (λ (b : ℕ). Rules b (get_or ts k []) (get_or ts (suc k) []) (suc (length ts) - suc (suc k))) (over a k)
-    (subst (Rules (suc a + k) (get_or ts k []) (get_or ts (suc k) [])) (sym (rest (length ts) k)) (rules_from (suc a) ts (and_right (proper a t && thins_next ts t) (lawful_from (suc a) ts) h) k (le_of_suc_le_suc g)))
+    (subst (Rules (suc a + k) (get_or ts k []) (get_or ts (suc k) [])) (sym (rest (length ts) k)) (rules_from (suc a) ts (and_right (proper a t && thins_next ts t) (lawful_from (suc a) ts) h) k (le_of_suc-le-suc g)))
   where
     rest : (n k : ℕ) → suc n - suc (suc k) ≡ n - suc k
     rest n k = omega arith
@@ -88,7 +88,7 @@ rules_from a (t ∷ ts) h (suc k) g =
 proper_from : (a : ℕ) (ts : List (List ℕ)) → T (lawful_from a ts) → (k : ℕ) → k < length ts → T (proper (a + k) (get_or ts k []))
 proper_from a [] h k g = absurd (not-suc-le-zero g)
 proper_from a (t ∷ ts) h zero g = subst (λ (b : ℕ). T (proper b t)) (sym (add-zero a)) (and_left (proper a t) (thins_next ts t) (and_left _ (lawful_from (suc a) ts) h))
-proper_from a (t ∷ ts) h (suc k) g = subst (λ (b : ℕ). T (proper b (get_or ts k []))) (over a k) (proper_from (suc a) ts (and_right (proper a t && thins_next ts t) (lawful_from (suc a) ts) h) k (le_of_suc_le_suc g))
+proper_from a (t ∷ ts) h (suc k) g = subst (λ (b : ℕ). T (proper b (get_or ts k []))) (over a k) (proper_from (suc a) ts (and_right (proper a t && thins_next ts t) (lawful_from (suc a) ts) h) k (le_of_suc-le-suc g))
   where
     over : (a k : ℕ) → suc a + k ≡ a + suc k
     over a k = omega arith

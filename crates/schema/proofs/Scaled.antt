@@ -1,5 +1,5 @@
 -- n × 2^x, cut to a whole number.
-use Rattle.std.proofs.Common.{◌≡◌, ℕ, zero, suc, ◌+◌, ◌-◌, ◌*◌, ◌/◌, ◌%◌, ◌^◌, ◌<◌, ◌≤◌, Bool, true, false, cond, ltb, ℤ, pos, negsuc, ◌+ℤ◌, sym, refl, ap, ◌∙◌, subst, ap₂, le_trans, le_of_eq, lt_of_lt_of_le, lt_of_le_of_lt, mul-le-mul_right, mul_assoc, div-lt_iff_lt-mul, mul_lt_mul_of_pos_right, one_mul, le-div_iff_mul-le, mul-one, mul_right_comm, arith, pow_pos, pow_add, ltb_false, ltb_true}
+use Rattle.std.proofs.Common.{◌≡◌, ℕ, zero, suc, ◌+◌, ◌-◌, ◌*◌, ◌/◌, ◌%◌, ◌^◌, ◌<◌, ◌≤◌, Bool, true, false, cond, ltb, ℤ, pos, negsuc, ◌+ℤ◌, sym, refl, ap, ◌∙◌, subst, ap₂, le_trans, le_of_eq, lt_of_lt_of_le, lt_of_le_of_lt, mul-le-mul_right, mul_assoc, div-lt_iff_lt-mul, mul-lt-mul_of_pos_right, one-mul, le-div_iff_mul-le, mul-one, mul_right_comm, arith, pow_pos, pow-add, ltb-false, ltb-true}
 use native.Mathlib.Nat.{eq_of_mul-eq-mul_right}
 use lib.Ieee.{up, down}
 use lib.Ieee.Fits.{up_pos, down_pos}
@@ -8,15 +8,15 @@ use Rattle.schema.specs.Bounds.{scaled}
 
 -- 2^(x + k) is 2^x × 2^k
 pub powers : (x : ℤ) (k : ℕ) → up (x +ℤ pos k) * down x ≡ up x * 2 ^ k * down (x +ℤ pos k)
-powers (pos p) k = ap (λ (z : ℕ). z * 1) (pow_add 2 p k)
+powers (pos p) k = ap (λ (z : ℕ). z * 1) (pow-add 2 p k)
 powers (negsuc p) k = go (ltb k (suc p)) refl
   where
     go : (b : Bool) → ltb k (suc p) ≡ b → up (cond b (negsuc (suc p - suc k)) (pos (k - suc p))) * 2 ^ suc p ≡ 1 * 2 ^ k * down (cond b (negsuc (suc p - suc k)) (pos (k - suc p)))
-    go true e = ap (λ (z : ℕ). 1 * 2 ^ z) (places (ltb_true k (suc p) e)) ∙ ap (λ (z : ℕ). 1 * z) (pow_add 2 k (suc (suc p - suc k))) ∙ sym (mul_assoc 1 (2 ^ k) (2 ^ suc (suc p - suc k)))
+    go true e = ap (λ (z : ℕ). 1 * 2 ^ z) (places (ltb-true k (suc p) e)) ∙ ap (λ (z : ℕ). 1 * z) (pow-add 2 k (suc (suc p - suc k))) ∙ sym (mul_assoc 1 (2 ^ k) (2 ^ suc (suc p - suc k)))
       where
         places : k < suc p → suc p ≡ k + suc (suc p - suc k)
         places h = omega arith
-    go false e = sym (pow_add 2 (k - suc p) (suc p)) ∙ ap (λ (z : ℕ). 2 ^ z) (places (ltb_false k (suc p) e)) ∙ sym (mul-one (1 * 2 ^ k) ∙ one_mul (2 ^ k))
+    go false e = sym (pow-add 2 (k - suc p) (suc p)) ∙ ap (λ (z : ℕ). 2 ^ z) (places (ltb-false k (suc p) e)) ∙ sym (mul-one (1 * 2 ^ k) ∙ one-mul (2 ^ k))
       where
         places : suc p ≤ k → k - suc p + suc p ≡ k
         places h = omega arith
@@ -42,7 +42,7 @@ pub exactly_within : (u n b : ℕ) (x : ℤ) → Exactly u n x → n ≤ b → u
 exactly_within u n b x e h = (le-div_iff_mul-le (down_pos x)).1 (le_trans (le_of_eq e) (mul-le-mul_right (up x) h))
 
 pub exactly_above : (u n b : ℕ) (x : ℤ) → Exactly u n x → b < n → scaled b x < u
-exactly_above u n b x e h = (div-lt_iff_lt-mul (down_pos x)).1 (lt_of_lt_of_le (mul_lt_mul_of_pos_right h (up_pos x)) (le_of_eq (sym e)))
+exactly_above u n b x e h = (div-lt_iff_lt-mul (down_pos x)).1 (lt_of_lt_of_le (mul-lt-mul_of_pos_right h (up_pos x)) (le_of_eq (sym e)))
 
 pub exactly_shift : (u n : ℕ) (x : ℤ) (k : ℕ) → Exactly u n (x +ℤ pos k) → Exactly u (n * 2 ^ k) x
 exactly_shift u n x k e =

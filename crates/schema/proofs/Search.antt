@@ -1,5 +1,5 @@
 -- The search of a table: what is known of the entries outside the part that is left.
-use Rattle.std.proofs.Common.{◌≡◌, ℕ, zero, suc, ◌+◌, ◌-◌, ◌*◌, ◌/◌, ◌^◌, ◌<◌, ◌≤◌, Bool, true, false, T, ltb, List, [], ◌∷◌, length, get_or, ℤ, pos, negsuc, ◌*ℤ◌, ◌≤ℤ◌, sym, refl, ap, ◌∙◌, subst, ap₂, inl, inr, ⊎_elim, suc-le-suc, le_trans, le_of_eq, le_refl, lt_of_lt_of_le, le_of_suc_le_suc, not-suc-le-zero, lt_of_le_of_lt, le_of_lt, mul-le-mul, suc-add, zero-add, mul-div_cancel, add-one, arith, pow_pos, pow_mono, ltb_false, ltb_true}
+use Rattle.std.proofs.Common.{◌≡◌, ℕ, zero, suc, ◌+◌, ◌-◌, ◌*◌, ◌/◌, ◌^◌, ◌<◌, ◌≤◌, Bool, true, false, T, ltb, List, [], ◌∷◌, length, get_or, ℤ, pos, negsuc, ◌*ℤ◌, ◌≤ℤ◌, sym, refl, ap, ◌∙◌, subst, ap₂, inl, inr, ⊎_elim, suc-le-suc, le_trans, le_of_eq, le_refl, lt_of_lt_of_le, le_of_suc-le-suc, not-suc-le-zero, lt_of_le_of_lt, le_of_lt, mul-le-mul, suc-add, zero-add, mul-div_cancel, add-one, arith, pow_pos, pow_mono, ltb-false, ltb-true}
 use lib.Ieee.{Float, lt, fits, binary64}
 use Rattle.std.proofs.lemmas.Bool.{cases_lt}
 use borrow.Author.Differences.{ints}
@@ -17,7 +17,7 @@ length_doubles (n ∷ ns) = ap suc (length_doubles ns)
 pub get_or_doubles : (ns : List ℕ) (k : ℕ) (d : Float) → k < length ns → get_or (doubles ns) k d ≡ entry_double (get_or ns k 0)
 get_or_doubles [] k d h = absurd (not-suc-le-zero h)
 get_or_doubles (n ∷ ns) zero d h = refl
-get_or_doubles (n ∷ ns) (suc k) d h = get_or_doubles ns k d (le_of_suc_le_suc h)
+get_or_doubles (n ∷ ns) (suc k) d h = get_or_doubles ns k d (le_of_suc-le-suc h)
 
 -- 2^53 times a fraction
 unfoldable pub numerator : Float → ℕ

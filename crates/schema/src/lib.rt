@@ -1,4 +1,6 @@
 // Schemas, bucket bounds and bucket indices.
+#![tactic(auto)]
+
 mod bounds;
 mod choice;
 mod faults;

@@ -2,7 +2,7 @@
 use Rattle.std.proofs.Common.{◌≡◌, ℕ, zero, suc, ◌+◌, ◌-◌, ◌^◌, ◌<◌, ◌≤◌, true, false, cond, ◌&&◌, T, ltb, List, [], ◌∷◌, ◌++◌, map, length, ℤ, pos, negsuc, ◌+ℤ◌, ◌-ℤ◌, nat_abs, ◌≤ℤ◌, Some, None, sym, refl, ap, ◌∙◌, append_assoc, arith}
 use lib.Signed.{lt_z}
 use Rattle.std.proofs.lemmas.Int.{ints}
-use Rattle.std.proofs.lemmas.Bool.{cond-true, cond-false, cond_both, eq_eqb, ne_eqb, lt-ltb, ltb_true, and_from, and_right}
+use Rattle.std.proofs.lemmas.Bool.{cond-true, cond-false, cond_both, eq-eqb, ne_eqb, lt-ltb, ltb-true, and_from, and_right}
 use Rattle.index.specs.Index.{in_index_range}
 use Rattle.store.specs.Pairs.{Pairs, same, counted}
 use Rattle.store.proofs.Order.{T_true, same_true, not_lt_z}
@@ -95,7 +95,7 @@ counts_none : (k b : ℕ) (ps : Pairs) → measure_refusal ps ≡ None → count
 counts_none k b [] e = refl
 counts_none k b (p ∷ ps) e =
     let a = passes (ltb p.1 (2 ^ 63)) _ _ e in
-    let h : p.1 < 2 ^ 63 = ltb_true p.1 (2 ^ 63) a.0 in
+    let h : p.1 < 2 ^ 63 = ltb-true p.1 (2 ^ 63) a.0 in
     ap (λ z. cond (countable z) (counts_refusal (k + 1) z (differences p.1 ps)) (Some (15, pos k))) (sum_back b p.1)
     ∙ cond-true (countable (pos p.1)) _ _ (in_counts p.1 h)
     ∙ counts_none (k + 1) p.1 ps a.1
@@ -160,7 +160,7 @@ reading_back ps w =
     let e : lengths (runs (filled ps)) ≡ length (differences 0 (filled ps)) = lengths_runs fs ∙ sym (length_differences 0 fs) in
     record {
       accepted =
-          none_from _ _ (cond-true _ _ _ (eq_eqb (lengths (runs fs)) (length (differences 0 fs)) e))
+          none_from _ _ (cond-true _ _ _ (eq-eqb (lengths (runs fs)) (length (differences 0 fs)) e))
           (none_from _ _ (lone_none (runs fs) (runs_none fs (climbs_filled (negsuc 274943) ps (climbs ps w.rises w.ranges))))
           (counts_none 0 0 fs (refusal_filled ps ∙ w.small)));
       pairs =

@@ -2,8 +2,8 @@
 use Rattle.std.proofs.Common.{◌≡◌, ℕ, ◌+◌, ◌-◌, ◌^◌, ◌<◌, ◌≤◌, Bool, true, false, cond, ◌&&◌, T, eqb, ltb, ◌⊎◌, List, [], ◌∷◌, length, get_or, drop, ℤ, pos, negsuc, ◌+ℤ◌, ◌-ℤ◌, nat_abs, ◌≤ℤ◌, Some, None, Option, sym, refl, ap, ◌∙◌, inl, inr, arith, w32, w64, Fits, SFits, to_z, of_z}
 use lib.Signed.{le_z, lt_z, le_z_yes}
 use Rattle.std.proofs.lemmas.List.{at_drop_more}
-use Rattle.std.proofs.lemmas.Int.{ints, to_z_of_z, to_z_pos}
-use Rattle.std.proofs.lemmas.Bool.{cond-true, cond-false, and_parts, and_from, and_left, and_right, eqb-true, eqb-false, ne_eqb, ltb_false}
+use Rattle.std.proofs.lemmas.Int.{ints, to_z-of_z, to_z_pos}
+use Rattle.std.proofs.lemmas.Bool.{cond-true, cond-false, and_parts, and_from, and_left, and_right, eqb-true, eqb-false, ne_eqb, ltb-false}
 use Rattle.index.specs.Index.{in_index_range}
 use Rattle.store.specs.Pairs.{same}
 use Rattle.store.proofs.Order.{true_T, same_true}
@@ -129,19 +129,19 @@ module _ (k : ℕ) (next : ℤ) (s : ℤ × ℕ) (low : negsuc 274943 ≤ℤ nex
 -- a span that does not go back: it is the first, or its offset is not negative
 pub onward_first : (k z : ℤ) → lt_z (pos 0) (to_z w64 (of_z w64 k)) ≡ false → SFits w64 k → pos 0 ≤ℤ k → (ltb 0 (nat_abs k) && lt_z z (pos 0)) ≡ false
 onward_first (pos n) z e f h =
-    let g : n ≡ 0 = zero n (ap (lt_z (pos 0)) (sym (to_z_of_z w64 (pos n) f)) ∙ e) in
+    let g : n ≡ 0 = zero n (ap (lt_z (pos 0)) (sym (to_z-of_z w64 (pos n) f)) ∙ e) in
     ap (λ m. ltb 0 m && lt_z z (pos 0)) g
   where
     zero : (n : ℕ) → ltb 0 n ≡ false → n ≡ 0
-    zero n e = let l = ltb_false 0 n e in omega arith
+    zero n e = let l = ltb-false 0 n e in omega arith
 onward_first (negsuc n) z e f h = absurd (omega (arith, ints))
 
 pub onward_offset : (k z : ℤ) → lt_z (to_z w32 (of_z w32 z)) (pos 0) ≡ false → SFits w32 z → (ltb 0 (nat_abs k) && lt_z z (pos 0)) ≡ false
-onward_offset k z e f = and_right (ltb 0 (nat_abs k)) (lt_z z (pos 0)) (ap (λ x. lt_z x (pos 0)) (sym (to_z_of_z w32 z f)) ∙ e)
+onward_offset k z e f = and_right (ltb 0 (nat_abs k)) (lt_z z (pos 0)) (ap (λ x. lt_z x (pos 0)) (sym (to_z-of_z w32 z f)) ∙ e)
 
 -- a number that is not negative, as a natural one and back
 pub whole_number : (k : ℤ) → pos 0 ≤ℤ k → SFits w64 k → pos (nat_abs k) ≡ to_z w64 (of_z w64 k)
-whole_number (pos n) h f = sym (to_z_of_z w64 (pos n) f)
+whole_number (pos n) h f = sym (to_z-of_z w64 (pos n) f)
 whole_number (negsuc n) h f = absurd (omega (arith, ints))
 
 -- a place in a list, as the machine has it

@@ -1,7 +1,7 @@
 -- What a loop over the filled pairs has written.
 use Rattle.std.proofs.Common.{◌≡◌, ℕ, ◌+◌, ◌-◌, ◌^◌, ◌<◌, ◌≤◌, Bool, true, false, cond, ltb, ◌⊎◌, List, [], ◌∷◌, ◌++◌, length, get_or, set, ℤ, pos, ◌+ℤ◌, ◌-ℤ◌, Some, None, Option, sym, refl, ap, ◌∙◌, inl, inr, arith}
 use Rattle.std.proofs.lemmas.List.{length-append, length_push}
-use Rattle.std.proofs.lemmas.Bool.{ltb_false, cases_lt}
+use Rattle.std.proofs.lemmas.Bool.{ltb-false, cases_lt}
 use Rattle.store.specs.Pairs.{Pairs}
 use Rattle.span.specs.Spans.{Spans, filled, runs, differences, spans, deltas}
 use Rattle.span.specs.Faults.{either}
@@ -23,7 +23,7 @@ ready ps s d e = go (measure_refusal ps) refl (ltb s (length (spans ps))) refl (
     go (Some f) k a l b m h = absurd (let z : ◌≡◌ {A = ℕ} 0 1 = cc in omega arith)
     go None k true l b m h = absurd (let z : ◌≡◌ {A = ℕ} 0 1 = cc in omega arith)
     go None k false l true m h = absurd (let z : ◌≡◌ {A = ℕ} 0 1 = cc in omega arith)
-    go None k false l false m h = record { small = k; of_spans = ltb_false _ _ l; of_deltas = ltb_false _ _ m }
+    go None k false l false m h = record { small = k; of_spans = ltb-false _ _ l; of_deltas = ltb-false _ _ m }
 
 -- of ss and ds the starts are written, and `previous` is the count last written
 pub record Laying (ys : Pairs) (ss : Spans) (ds : List ℤ) (ss' : Spans) (ds' : List ℤ) (previous : ℤ) : Type 0 where

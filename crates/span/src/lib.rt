@@ -1,4 +1,6 @@
 // Spans and deltas: the written form of the pairs of one side, and its reader.
+#![tactic(auto)]
+
 mod faults;
 mod filled;
 pub mod laws;

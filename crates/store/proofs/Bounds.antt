@@ -1,7 +1,7 @@
 -- Lists whose indices all lie above, below, from or up to an index, and rising lists by their parts.
 use Rattle.std.proofs.Common.{◌≡◌, ℕ, ◌<◌, Bool, true, false, cond, ◌&&◌, T, ltb, [], ◌∷◌, ℤ, ◌≤ℤ◌, ◌<ℤ◌, refl, ap, ◌∙◌, arith}
 use Rattle.std.proofs.lemmas.Int.{ints}
-use Rattle.std.proofs.lemmas.Bool.{cond-false, ltb_true, lt-ltb, or_from}
+use Rattle.std.proofs.lemmas.Bool.{cond-false, ltb-true, lt-ltb, or_from}
 use Rattle.store.specs.Pairs.{Pairs, same, leads, rising, counted, listed, count_at}
 use Rattle.store.proofs.Order.{T_true, true_T, same_itself, same_not, below_same, above_same}
 
@@ -74,7 +74,7 @@ rising_more p ps a r = T_and (leads p.0 ps) (rising ps) (leads_from_above p.0 ps
 
 -- the same for counts of at least 1
 pub counted_first : (p : ℤ × ℕ) (ps : Pairs) → T (counted (p ∷ ps)) → 0 < p.1
-counted_first p ps t = ltb_true 0 p.1 (T_true (ltb 0 p.1) (and_T (ltb 0 p.1) (counted ps) t).0)
+counted_first p ps t = ltb-true 0 p.1 (T_true (ltb 0 p.1) (and_T (ltb 0 p.1) (counted ps) t).0)
 
 pub counted_tail : (p : ℤ × ℕ) (ps : Pairs) → T (counted (p ∷ ps)) → T (counted ps)
 counted_tail p ps t = (and_T (ltb 0 p.1) (counted ps) t).1

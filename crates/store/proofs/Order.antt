@@ -2,7 +2,7 @@
 use Rattle.std.proofs.Common.{◌≡◌, Bool, true, false, ◌||◌, T, ◌⊎◌, ℤ, pos, negsuc, ◌≤ℤ◌, ◌<ℤ◌, sym, refl, ap, ◌∙◌, subst, arith}
 use lib.Signed.{lt_z}
 use Rattle.std.proofs.lemmas.Int.{ints}
-use Rattle.std.proofs.lemmas.Bool.{eq_eqb, eqb-true, both_ways}
+use Rattle.std.proofs.lemmas.Bool.{eq-eqb, eqb-true, both_ways}
 use Rattle.store.specs.Pairs.{same}
 
 pub T_true : (b : Bool) → T b → b ≡ true
@@ -13,8 +13,8 @@ pub true_T : (b : Bool) → b ≡ true → T b
 true_T b e = subst T (sym e) tt
 
 pub same_itself : (i : ℤ) → same i i ≡ true
-same_itself (pos a) = eq_eqb a a refl
-same_itself (negsuc a) = eq_eqb a a refl
+same_itself (pos a) = eq-eqb a a refl
+same_itself (negsuc a) = eq-eqb a a refl
 
 pub same_from : (i j : ℤ) → i ≡ j → same i j ≡ true
 same_from i j e = ap (same i) (sym e) ∙ same_itself i

@@ -1,4 +1,6 @@
 // A store of buckets: a list of pairs (index, count), lowest index first.
+#![tactic(auto)]
+
 ghost use Rattle.std.specs.Prelude.{◌≡◌, T, [], length};
 ghost use Rattle.store.specs.Pairs.{Pairs, Means, ranged, pair_at, lowest, without_lowest, halved_pairs};
 ghost use Rattle.store.specs.Stores.{Room, Roomy, Added};

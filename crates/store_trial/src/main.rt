@@ -1,4 +1,6 @@
 // Tries both stores beside a plain model of them, and prints a summary, or the first call where they differ.
+#![tactic(auto)]
+
 mod calls;
 mod model;
 mod random;

@@ -1,7 +1,7 @@
 use Rattle.std.proofs.Common.{◌≡◌, ℕ, ◌+◌, ◌-◌, ◌*◌, ◌%◌, ◌^◌, ◌<◌, ◌≤◌, sym, ap, ◌∙◌, subst, le_of_eq, lt_of_lt_of_le, lt_of_le_of_lt, arith, w64, Fits}
 use lib.Count.{count_leading_zeros}
 use lib.Ieee.{size, binary64, of_bits}
-use lib.Ieee.Digits.{size_le}
+use lib.Ieee.Digits.{size-le}
 use Rattle.double.proofs.Fraction.{digits_of, full, full_lt, no_nan}
 use Rattle.double.proofs.normalize.Goals as goal
 
@@ -19,7 +19,7 @@ bits : (m : ℕ) → 0 < m → m < 2 ^ 53 → 1021 * 2 ^ 52 + m * 2 ^ (53 - (64 
 bits m h g = omega (arith, shifted m h g, full_lt m g)
 
 pub overflow-sub-result : goal.overflow-sub-result
-overflow-sub-result c = omega (arith, digits c.args.mantissa c.requires.nonzero c.requires.digits, size_le c.args.mantissa 53 c.requires.digits)
+overflow-sub-result c = omega (arith, digits c.args.mantissa c.requires.nonzero c.requires.digits, size-le c.args.mantissa 53 c.requires.digits)
 
 pub overflow-add-result : goal.overflow-add-result
 overflow-add-result c = record { fits = omega (arith, bits c.args.mantissa c.requires.nonzero c.requires.digits) }
@@ -31,5 +31,5 @@ pub returns : goal.returns
 returns c = record {
   fraction = ap (λ (x : ℕ). of_bits binary64 (1021 * 2 ^ 52 + x)) (shifted c.args.mantissa c.requires.nonzero c.requires.digits);
   digits = digits c.args.mantissa c.requires.nonzero c.requires.digits;
-  small = omega (arith, digits c.args.mantissa c.requires.nonzero c.requires.digits, size_le c.args.mantissa 53 c.requires.digits);
+  small = omega (arith, digits c.args.mantissa c.requires.nonzero c.requires.digits, size-le c.args.mantissa 53 c.requires.digits);
 }

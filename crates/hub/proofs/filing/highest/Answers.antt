@@ -1,5 +1,5 @@
 use Rattle.std.proofs.Common.{◌≡◌, ◌-◌, sym, ap, ◌∙◌, subst, w32, SFits, rules}
-use Rattle.std.proofs.lemmas.Int.{to_z_of_z}
+use Rattle.std.proofs.lemmas.Int.{to_z-of_z}
 use Rattle.store.specs.Pairs.{pair_at}
 use Rattle.hub.specs.Filing.{Highest}
 use Rattle.hub.proofs.Tops.{last_highest, last_missing, empty_length}
@@ -13,7 +13,7 @@ pub returns-in-Some : goal.returns-in-Some
 returns-in-Some g c =
     let ps = g.S.BucketStore.pairs c.args.store.now in
     let f : SFits w32 c.in-Some.index = search rules in
-    subst (λ i. Highest i ps) (sym (to_z_of_z w32 c.in-Some.index f))
+    subst (λ i. Highest i ps) (sym (to_z-of_z w32 c.in-Some.index f))
     (last_highest ps (c.in-Some.index, c.in-Some.field-0-1) (g.met.S.BucketStore.means c.args.store.now).rises
     (c.in-Some.ensures ∙ ap (λ n. pair_at ps (n - 1)) c.size-size.ensures))
 

@@ -1,6 +1,6 @@
 use Rattle.std.proofs.Common.{◌≡◌, ℕ, ℤ, Err, sym, ap, ◌∙◌, arith, w32, SFits, to_z, of_z}
 use Rattle.std.specs.List.{insert}
-use Rattle.std.proofs.lemmas.Int.{to_z_of_z}
+use Rattle.std.proofs.lemmas.Int.{to_z-of_z}
 use Rattle.store.specs.Pairs.{Pairs, raised}
 use Rattle.store.proofs.Range.{ranged_raised}
 use Rattle.store.proofs.Raising.{means_raised, total_raised}
@@ -21,7 +21,7 @@ insert-at-requires c =
 -- what the table lists with the new index
 lists : (i : ℤ) (ps qs : Pairs) (k : ℕ) → SFits w32 i → sought i ps ≡ Err k → qs ≡ insert ps k (to_z w32 (of_z w32 i), 1) → qs ≡ raised i ps
 lists i ps qs k f place e =
-    e ∙ ap (λ j. insert ps k (j, 1)) (to_z_of_z w32 i f) ∙ sym (raised_new i ps k (sym place))
+    e ∙ ap (λ j. insert ps k (j, 1)) (to_z-of_z w32 i f) ∙ sym (raised_new i ps k (sym place))
 
 pub invariant-of-self : goal.invariant-of-self
 invariant-of-self c =

@@ -1,7 +1,7 @@
 use Rattle.std.proofs.Common.{◌≡◌, ℕ, ◌+◌, ◌-◌, ◌/◌, true, false, length, get_or, ℤ, pos, ◌<ℤ◌, sym, ap, ◌∙◌, subst, inl, inr, arith, w32, SFits, to_z, of_z, rules}
 use lib.Signed.{lt_z}
 use Rattle.std.proofs.lemmas.List.{length-take-le}
-use Rattle.std.proofs.lemmas.Int.{ints, to_z_of_z}
+use Rattle.std.proofs.lemmas.Int.{ints, to_z-of_z}
 use Rattle.std.proofs.lemmas.Bool.{both_ways}
 use Rattle.store.proofs.Order.{cases_index, below_lt_z}
 use Rattle.row.specs.Rows.{row_pairs}
@@ -18,15 +18,15 @@ loop-low-init c =
 
 -- the tests on an index that was read, x, and the index that is sought, i
 less : (x i : ℤ) → SFits w32 x → lt_z (to_z w32 (of_z w32 x)) i ≡ true → x <ℤ i
-less x i f t = let t' = subst (λ z. lt_z z i ≡ true) (to_z_of_z w32 x f) t in grind (arith, ints)
+less x i f t = let t' = subst (λ z. lt_z z i ≡ true) (to_z-of_z w32 x f) t in grind (arith, ints)
 
 more : (x i : ℤ) → SFits w32 x → SFits w32 i → (of_z w32 x ≡ of_z w32 i → ⊥) → lt_z (to_z w32 (of_z w32 x)) (to_z w32 (of_z w32 i)) ≡ false → to_z w32 (of_z w32 i) <ℤ x
 more x i f g n t =
     let j : ℤ = to_z w32 (of_z w32 i) in
-    let t' = subst (λ z. lt_z z j ≡ false) (to_z_of_z w32 x f) t in
+    let t' = subst (λ z. lt_z z j ≡ false) (to_z-of_z w32 x f) t in
     elim (cases_index x j) [
       | inl l ↦ absurd (both_ways (lt_z x j) t' (below_lt_z x j l))
-      | inr m ↦ elim m [ inl e ↦ absurd (n (ap (of_z w32) (e ∙ to_z_of_z w32 i g))) | inr l ↦ l ]
+      | inr m ↦ elim m [ inl e ↦ absurd (n (ap (of_z w32) (e ∙ to_z-of_z w32 i g))) | inr l ↦ l ]
     ]
 
 pub returns-then-here-index : goal.returns-then-here-index
@@ -35,7 +35,7 @@ returns-then-here-index c =
     let k : ℕ = c.loop-low.low + (c.loop-low.high - c.loop-low.low) / 2 in
     let f : SFits w32 (get_or xs k (pos 0, 0)).0 = search rules in
     let e : (get_or xs k (pos 0, 0)).0 ≡ c.args.index =
-    sym (to_z_of_z w32 _ f) ∙ ap (to_z w32) c.if-here-index.true ∙ to_z_of_z w32 _ c.ranges.index in
+    sym (to_z-of_z w32 _ f) ∙ ap (to_z w32) c.if-here-index.true ∙ to_z-of_z w32 _ c.ranges.index in
     sought_listed _ _ k (front_at c.args.index xs c.args.self.now.size k (pos 0, 0) c.args.self.now.rises (omega arith) (omega arith) e)
 
 pub loop-low-preserved-then-here-index-2 : goal.loop-low-preserved-then-here-index-2

@@ -1,5 +1,5 @@
 use Rattle.std.proofs.Common.{◌≡◌, ℕ, ◌+◌, get_or, take, pos, ap, ◌∙◌, arith, w32, SFits, to_z, of_z, rules}
-use Rattle.std.proofs.lemmas.Int.{to_z_of_z}
+use Rattle.std.proofs.lemmas.Int.{to_z-of_z}
 use Rattle.index.specs.Index.{halved}
 use Rattle.store.specs.Pairs.{total}
 use Rattle.store.proofs.Halving.{total_halved}
@@ -26,7 +26,7 @@ loop-k-preserved c =
     let f : SFits w32 (get_or ys c.loop-k.k (pos 0, 0)).0 = search rules in
     let g : SFits w32 c.coarser-index.result = search rules in
     let half : to_z w32 (of_z w32 c.coarser-index.result) ≡ halved (get_or ys c.loop-k.k (pos 0, 0)).0 =
-    to_z_of_z w32 _ g ∙ c.coarser-index.ensures.value ∙ ap halved (to_z_of_z w32 _ f) in (
+    to_z-of_z w32 _ g ∙ c.coarser-index.ensures.value ∙ ap halved (to_z-of_z w32 _ f) in (
       omega arith,
       c.join-last-used.ensures.joins
           ∙ ap (λ i. joined_last (take c.loop-k.used ys) (i, (get_or ys k (pos 0, 0)).1)) half

@@ -1,6 +1,6 @@
 use Rattle.std.proofs.Common.{◌≡◌, ℕ, ◌+◌, ◌-◌, get_or, pos, sym, ap, ◌∙◌, arith, w32, SFits, to_z, of_z, rules}
 use Rattle.std.proofs.lemmas.List.{drop-set-lt}
-use Rattle.std.proofs.lemmas.Int.{to_z_of_z}
+use Rattle.std.proofs.lemmas.Int.{to_z-of_z}
 use Rattle.store.proofs.Parts.{total_taken}
 use Rattle.row.proofs.Joins.{join_meets, join_apart}
 use Rattle.row.proofs.halving.join_last.Goals as goal
@@ -20,7 +20,7 @@ returns-then-table-used c =
     let f : SFits w32 (get_or t (c.args.used - 1) (pos 0, 0)).0 = search rules in
     let g : SFits w32 c.args.pair.0 = search rules in
     let e : (get_or t (c.args.used - 1) (pos 0, 0)).0 ≡ c.args.pair.0 =
-    sym (to_z_of_z w32 _ f) ∙ ap (to_z w32) c.if-table-used.true ∙ to_z_of_z w32 _ g in
+    sym (to_z-of_z w32 _ f) ∙ ap (to_z w32) c.if-table-used.true ∙ to_z-of_z w32 _ g in
     record {
       within = omega arith;
       joins = join_meets t n c.args.pair (pos 0, 0) (omega arith) (omega arith) e;

@@ -1,7 +1,7 @@
 use Rattle.std.proofs.Common.{◌≡◌, ℕ, ◌+◌, ◌-◌, ◌*◌, ◌^◌, ◌<◌, ◌≤◌, length, ℤ, pos, nat_abs, sym, ap, ◌∙◌, ap₂, arith, pow_pos, w32, SFits, to_z, of_z, rules}
 use borrow.Author.Differences.{ints}
 use Rattle.std.specs.Int.{int_div_euclid, int_rem_euclid}
-use Rattle.std.proofs.lemmas.Int.{to_z_of_z, of_z-to_z, to_z_pos}
+use Rattle.std.proofs.lemmas.Int.{to_z-of_z, of_z-to_z, to_z_pos}
 use Rattle.index.specs.Index.{quotient, remainder}
 use Rattle.schema.proofs.Search.{bounds_length, few_entries}
 use Rattle.schema.proofs.Reading.{quotient_is, remainder_is}
@@ -48,7 +48,7 @@ returns c =
     let fr : SFits w32 c.rem-euclid.result = search rules in
     record {
       octave =
-          to_z_of_z w32 c.div-euclid.result fq ∙ c.div-euclid.ensures ∙ ap₂ int_div_euclid (to_z_of_z w32 i fi) (to_z_pos w32 (length c.entries.result.now) (small _ few)) ∙ quotient_is i (length c.entries.result.now) ∙ ap (λ (d : ℕ). quotient d i) e;
+          to_z-of_z w32 c.div-euclid.result fq ∙ c.div-euclid.ensures ∙ ap₂ int_div_euclid (to_z-of_z w32 i fi) (to_z_pos w32 (length c.entries.result.now) (small _ few)) ∙ quotient_is i (length c.entries.result.now) ∙ ap (λ (d : ℕ). quotient d i) e;
       place =
-          ap nat_abs (to_z_of_z w32 c.rem-euclid.result fr ∙ c.rem-euclid.ensures.value ∙ ap₂ int_rem_euclid (to_z_of_z w32 i fi) (to_z_pos w32 (length c.entries.result.now) (small _ few))) ∙ remainder_is i (length c.entries.result.now) ∙ ap (λ (d : ℕ). remainder d i) e;
+          ap nat_abs (to_z-of_z w32 c.rem-euclid.result fr ∙ c.rem-euclid.ensures.value ∙ ap₂ int_rem_euclid (to_z-of_z w32 i fi) (to_z_pos w32 (length c.entries.result.now) (small _ few))) ∙ remainder_is i (length c.entries.result.now) ∙ ap (λ (d : ℕ). remainder d i) e;
     }

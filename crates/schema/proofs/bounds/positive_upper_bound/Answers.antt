@@ -1,6 +1,6 @@
 use Rattle.std.proofs.Common.{◌≡◌, ℕ, T, ℤ, pos, ◌+ℤ◌, sym, ap, ◌∙◌, subst, ap₂, w8, w32, SFits, rules}
 use Rattle.schema.proofs.Reading.{fine, wide}
-use Rattle.std.proofs.lemmas.Int.{to_z_of_z}
+use Rattle.std.proofs.lemmas.Int.{to_z-of_z}
 use lib.Ieee.{Float, le}
 use Rattle.schema.specs.Bounds.{bound, Largest, is_schema}
 use Rattle.schema.proofs.Laws.{bound_largest, bound_rises}
@@ -18,12 +18,12 @@ pub returns-then-schema-ge0 : goal.returns-then-schema-ge0
 returns-then-schema-ge0 c =
     let fi : SFits w32 c.args.index = search rules in
     let fs : SFits w8 c.args.schema.value = search rules in
-    let m = met c.args.schema.value c.args.index c.table-bound.result c.args.schema.known (c.table-bound.ensures ∙ ap₂ bound (fine c.args.schema.value fs c.if-schema-ge0.true) (to_z_of_z w32 c.args.index fi)) in
+    let m = met c.args.schema.value c.args.index c.table-bound.result c.args.schema.known (c.table-bound.ensures ∙ ap₂ bound (fine c.args.schema.value fs c.if-schema-ge0.true) (to_z-of_z w32 c.args.index fi)) in
     record { value = m.value; largest = m.largest; rises = m.rises }
 
 pub returns-else-schema-ge0 : goal.returns-else-schema-ge0
 returns-else-schema-ge0 c =
     let fi : SFits w32 c.args.index = search rules in
     let fs : SFits w8 c.args.schema.value = search rules in
-    let m = met c.args.schema.value c.args.index c.power-bound.result c.args.schema.known (c.power-bound.ensures ∙ ap₂ bound (wide c.args.schema.value c.args.schema.known c.if-schema-ge0.false) (to_z_of_z w32 c.args.index fi)) in
+    let m = met c.args.schema.value c.args.index c.power-bound.result c.args.schema.known (c.power-bound.ensures ∙ ap₂ bound (wide c.args.schema.value c.args.schema.known c.if-schema-ge0.false) (to_z-of_z w32 c.args.index fi)) in
     record { value = m.value; largest = m.largest; rises = m.rises }

@@ -1,6 +1,6 @@
 use Rattle.std.proofs.Common.{◌≡◌, ℕ, ◌+◌, ◌*◌, ◌^◌, ◌<◌, ◌≤◌, ℤ, pos, negsuc, ◌+ℤ◌, ◌≤ℤ◌, sym, ap, ◌∙◌, subst, ap₂, le_trans, le_of_eq, lt_of_le_of_lt, arith, pow_pos, w32, w64, SFits, to_z, of_z, rules}
 use borrow.Author.Differences.{ints}
-use Rattle.std.proofs.lemmas.Int.{to_z_of_z}
+use Rattle.std.proofs.lemmas.Int.{to_z-of_z}
 use Rattle.index.specs.Index.{quotient, remainder}
 use Rattle.double.specs.Double.{largest}
 use Rattle.schema.specs.Tables.{entry}
@@ -34,7 +34,7 @@ returns c =
     let o : ℤ = c.octave-octave.result.0 in
     let fo : SFits w32 o = search rules in
     let fi : SFits w32 c.args.index = search rules in
-    let ei : to_z w32 (of_z w32 c.args.index) ≡ c.args.index = to_z_of_z w32 c.args.index fi in
+    let ei : to_z w32 (of_z w32 c.args.index) ≡ c.args.index = to_z-of_z w32 c.args.index fi in
     c.scale.ensures
     ∙ ap₂ (λ (n : ℕ) (x : ℤ). largest (scaled n (x +ℤ pos 1021))) (c.mantissa.ensures ∙ ap (entry c.args.a) (c.octave-octave.ensures.place ∙ ap (remainder (2 ^ c.args.a)) ei)) (plus_one o c.from.result fo c.from.ensures ∙ ap (λ (q : ℤ). q +ℤ pos 1) (c.octave-octave.ensures.octave ∙ ap (quotient (2 ^ c.args.a)) ei))
     ∙ ap largest (sym (cut_table c.args.a c.args.index))

@@ -3,7 +3,7 @@ use borrow.Author.Differences.{ints}
 use borrow.Author.Tests.{clash}
 use lib.Ieee.{Float, nan, inf, fin, binary64, fits, is_nan, eq, of_bits}
 use Rattle.std.specs.Float.{float_is_infinite, float_is_finite}
-use Rattle.std.proofs.lemmas.Int.{to_z_of_z}
+use Rattle.std.proofs.lemmas.Int.{to_z-of_z}
 use Rattle.double.specs.Double.{finite_nonzero}
 use Rattle.double.proofs.Shape.{passes}
 use Rattle.double.proofs.Fraction.{zero_tested, nonzero_tested}

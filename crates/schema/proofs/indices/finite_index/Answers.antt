@@ -1,7 +1,7 @@
 use Rattle.std.proofs.Common.{◌≡◌, ℕ, ◌+◌, ◌-◌, ◌^◌, ◌<◌, ◌≤◌, ℤ, pos, negsuc, ◌+ℤ◌, ◌-ℤ◌, neg_ℤ, nat_abs, ◌≤ℤ◌, sym, ap, ◌∙◌, subst, ap₂, arith, pow_pos, w8, w32, SFits, to_z, of_z, rules}
 use borrow.Author.Differences.{ints}
 use Rattle.std.specs.Int.{int_div_euclid}
-use Rattle.std.proofs.lemmas.Int.{to_z_of_z}
+use Rattle.std.proofs.lemmas.Int.{to_z-of_z}
 use Rattle.index.specs.Index.{quotient}
 use Rattle.schema.specs.Bounds.{finite_index, table_index}
 use Rattle.schema.proofs.Reading.{wide, wide_range, few_octaves, finite_wide, quotient_is, quotient_range}
@@ -39,7 +39,7 @@ returns c =
     let w = c.octaves-wide-width.result in
     let s : Summands t w (2 ^ n) = record { least = c.table-index-2.ensures.range.0; most = c.table-index-2.ensures.range.1; width = c.octaves-wide-width.ensures; some = pow_pos n; few = few_octaves n r.1 } in
     let f : SFits w32 c.div-euclid.result = search rules in
-    let q : to_z w32 (of_z w32 c.div-euclid.result) ≡ quotient (2 ^ n) (t +ℤ pos (2 ^ n - 1)) = to_z_of_z w32 c.div-euclid.result f ∙ c.div-euclid.ensures ∙ ap₂ int_div_euclid (sum_is t w (2 ^ n) s) (width_is t w (2 ^ n) s) ∙ quotient_is (t +ℤ pos (2 ^ n - 1)) (2 ^ n) in
+    let q : to_z w32 (of_z w32 c.div-euclid.result) ≡ quotient (2 ^ n) (t +ℤ pos (2 ^ n - 1)) = to_z-of_z w32 c.div-euclid.result f ∙ c.div-euclid.ensures ∙ ap₂ int_div_euclid (sum_is t w (2 ^ n) s) (width_is t w (2 ^ n) s) ∙ quotient_is (t +ℤ pos (2 ^ n - 1)) (2 ^ n) in
     let b = quotient_range (2 ^ n) (t +ℤ pos (2 ^ n - 1)) (omega (arith, ints, s.few, s.some)) (omega (arith, ints, s.few, s.some)) in
     record {
       value =

@@ -1,4 +1,4 @@
-use Rattle.std.proofs.Common.{◌≡◌, ℕ, ◌+◌, ◌-◌, ◌*◌, ◌/◌, ◌^◌, ◌<◌, ◌≤◌, List, length, get_or, ℤ, pos, negsuc, ◌+ℤ◌, ◌-ℤ◌, ◌*ℤ◌, ◌≤ℤ◌, sym, refl, ap, ◌∙◌, subst, ap₂, arith, w32, SFits, to_z, of_z, rules, ltb_false, ltb_true}
+use Rattle.std.proofs.Common.{◌≡◌, ℕ, ◌+◌, ◌-◌, ◌*◌, ◌/◌, ◌^◌, ◌<◌, ◌≤◌, List, length, get_or, ℤ, pos, negsuc, ◌+ℤ◌, ◌-ℤ◌, ◌*ℤ◌, ◌≤ℤ◌, sym, refl, ap, ◌∙◌, subst, ap₂, arith, w32, SFits, to_z, of_z, rules, ltb-false, ltb-true}
 use borrow.Author.Differences.{ints}
 use lib.Ieee.{Float, lt, nan}
 use Rattle.double.specs.Double.{exponent}
@@ -25,7 +25,7 @@ loop-low-preserved-then-bounds-middle c =
     let middle = low + (high - low) / 2 in
     let inside : middle < 2 ^ c.args.a = omega (arith, c.loop-low.invariant.inside) in
     narrowed_up c.args.a c.requires.known (numerator f) low high middle c.loop-low.invariant (omega arith) (omega arith)
-    (ltb_true _ _ (sym (tested c.args.a c.requires.known f (numerator f) middle nan (normal_own c.args.v f (ap (λ (p : Float × ℤ). p.0) c.frexp-fraction.ensures.value) (passes _ c.well-formed.1.0.1) c.requires.finite) inside) ∙ ap (λ (bs : List Float). lt (get_or bs middle nan) f) (sym c.entries-bounds.ensures) ∙ c.if-bounds-middle.true))
+    (ltb-true _ _ (sym (tested c.args.a c.requires.known f (numerator f) middle nan (normal_own c.args.v f (ap (λ (p : Float × ℤ). p.0) c.frexp-fraction.ensures.value) (passes _ c.well-formed.1.0.1) c.requires.finite) inside) ∙ ap (λ (bs : List Float). lt (get_or bs middle nan) f) (sym c.entries-bounds.ensures) ∙ c.if-bounds-middle.true))
 
 pub loop-low-preserved : goal.loop-low-preserved
 loop-low-preserved c =
@@ -35,7 +35,7 @@ loop-low-preserved c =
     let middle = low + (high - low) / 2 in
     let inside : middle < 2 ^ c.args.a = omega (arith, c.loop-low.invariant.inside) in
     narrowed_down c.args.a c.requires.known (numerator f) low high middle c.loop-low.invariant (omega arith) (omega arith)
-    (ltb_false _ _ (sym (tested c.args.a c.requires.known f (numerator f) middle nan (normal_own c.args.v f (ap (λ (p : Float × ℤ). p.0) c.frexp-fraction.ensures.value) (passes _ c.well-formed.1.0.1) c.requires.finite) inside) ∙ ap (λ (bs : List Float). lt (get_or bs middle nan) f) (sym c.entries-bounds.ensures) ∙ c.if-bounds-middle.false))
+    (ltb-false _ _ (sym (tested c.args.a c.requires.known f (numerator f) middle nan (normal_own c.args.v f (ap (λ (p : Float × ℤ). p.0) c.frexp-fraction.ensures.value) (passes _ c.well-formed.1.0.1) c.requires.finite) inside) ∙ ap (λ (bs : List Float). lt (get_or bs middle nan) f) (sym c.entries-bounds.ensures) ∙ c.if-bounds-middle.false))
 
 -- ---- the index
 

@@ -1,7 +1,7 @@
 use Rattle.std.proofs.Common.{◌≡◌, ℕ, ◌+◌, ◌-◌, length, get_or, drop, pos, Some, sym, ap, ◌∙◌, arith, w32, w64, Fits, rules}
 use Rattle.std.proofs.lemmas.List.{at_drop_more, at_drop_all}
 use Rattle.std.proofs.lemmas.Int.{to_z_pos}
-use Rattle.std.proofs.lemmas.Bool.{cond-true, cond-false, eq_eqb, ne_eqb}
+use Rattle.std.proofs.lemmas.Bool.{cond-true, cond-false, eq-eqb, ne_eqb}
 use Rattle.span.specs.Reading.{lengths}
 use Rattle.span.proofs.opening.check_lengths.Goals as goal
 
@@ -17,7 +17,7 @@ loop-span-preserved c =
 pub returns-then-sum-deltas : goal.returns-then-sum-deltas
 returns-then-sum-deltas c =
     let e : lengths (drop c.loop-span.span-index c.args.spans.now) ≡ 0 = at_drop_all lengths c.args.spans.now c.loop-span.span-index c.loop-span-test.false in
-    sym (cond-true _ _ _ (eq_eqb (lengths c.args.spans.now) (length c.args.deltas.now) (omega arith)))
+    sym (cond-true _ _ _ (eq-eqb (lengths c.args.spans.now) (length c.args.deltas.now) (omega arith)))
 
 pub returns-else-sum-deltas : goal.returns-else-sum-deltas
 returns-else-sum-deltas c =

@@ -1,5 +1,5 @@
 use Rattle.std.proofs.Common.{◌≡◌, ℕ, ◌-◌, ◌^◌, ◌<◌, Bool, true, false, get_or, ℤ, pos, Some, Ok, Err, sym, refl, ap, ◌∙◌, arith, w32, SFits, to_z, of_z}
-use Rattle.std.proofs.lemmas.Int.{to_z_of_z}
+use Rattle.std.proofs.lemmas.Int.{to_z-of_z}
 use Rattle.index.specs.Index.{in_index_range}
 use Rattle.store.specs.Pairs.{total, listed, raised}
 use Rattle.row.specs.declared.Row.{Row}
@@ -12,7 +12,7 @@ use Rattle.row.proofs.as_store.RowBucketStore.add.Goals as goal
 
 -- an index that is passed on is the index
 back : (i : ℤ) → SFits w32 i → to_z w32 (of_z w32 i) ≡ i
-back i f = to_z_of_z w32 i f
+back i f = to_z-of_z w32 i f
 
 ranges : (i : ℤ) (b : Bool) → SFits w32 i → b ≡ in_index_range (to_z w32 (of_z w32 i)) → b ≡ true → in_index_range i ≡ true
 ranges i b f e t = ap in_index_range (sym (back i f)) ∙ sym e ∙ t

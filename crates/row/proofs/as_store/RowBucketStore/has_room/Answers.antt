@@ -1,5 +1,5 @@
 use Rattle.std.proofs.Common.{is_ok, sym, ap, ◌∙◌, arith, w32}
-use Rattle.std.proofs.lemmas.Int.{to_z_of_z}
+use Rattle.std.proofs.lemmas.Int.{to_z-of_z}
 use Rattle.std.proofs.lemmas.Bool.{lt-ltb}
 use Rattle.row.specs.Rows.{row_pairs, sought}
 use Rattle.row.proofs.Kept.{row_length}
@@ -17,5 +17,5 @@ returns-else-self-lt-CAPACITY c =
     let n = row_length c.args.self.now in
     let ps = row_pairs c.args.self.now in
     c.is-ok.ensures.value
-    ∙ ap is_ok (c.search.ensures ∙ ap (λ i. sought i ps) (to_z_of_z w32 c.args.index c.ranges.index))
+    ∙ ap is_ok (c.search.ensures ∙ ap (λ i. sought i ps) (to_z-of_z w32 c.args.index c.ranges.index))
     ∙ room_full c.args.index ps (omega arith)
