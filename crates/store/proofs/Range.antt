@@ -1,7 +1,7 @@
 -- Indices stay in range: raising one in range, taking the lowest and halving keep them there.
-use Rattle.std.proofs.Common.{◌≡◌, ℕ, Bool, ◌&&◌, T, [], ◌∷◌, ◌++◌, ℤ, sym, subst}
+use Rattle.std.proofs.Common.{ℕ, T, [], ◌∷◌, ℤ}
 use Rattle.index.specs.Index.{in_index_range, halved}
-use Rattle.store.specs.Pairs.{Pairs, ranged, raised, without_lowest, joined, halved_pairs, listed, same}
+use Rattle.store.specs.Pairs.{Pairs, ranged, raised, without_lowest, joined, halved_pairs}
 use Rattle.store.proofs.Bounds.{and_T, T_and}
 use Rattle.store.proofs.Raising.{by_raised}
 use Rattle.store.proofs.Halving.{by_joined, halved_in_range}

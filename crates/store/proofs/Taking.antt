@@ -2,7 +2,7 @@
 use Rattle.std.proofs.Common.{◌≡◌, ℕ, T, [], ◌∷◌, ℤ, ◌≤ℤ◌, sym, refl, subst, inl, inr, arith}
 use Rattle.std.proofs.lemmas.Int.{ints}
 use Rattle.std.proofs.lemmas.Bool.{or_cases}
-use Rattle.store.specs.Pairs.{Pairs, Means, same, rising, listed, lowest, without_lowest}
+use Rattle.store.specs.Pairs.{Pairs, Means, same, rising, listed, without_lowest}
 use Rattle.store.specs.Laws.{Taken, Taking}
 use Rattle.store.proofs.Order.{T_true, true_T, same_true}
 use Rattle.store.proofs.Bounds.{From, from_above, rising_tail, rising_above, counted_tail, uncounted_above, count_first, count_other}
