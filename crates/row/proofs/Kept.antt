@@ -20,10 +20,7 @@ kept t n s ps whole fits e m ranges sums = record {
   sums = sums ∙ ap total (sym e);
 }
 
--- and what such a row means
-pub row_means : (r : Row) → Means (row_pairs r)
-row_means r = record { rises = r.rises; counts = r.counts; bounded = r.bounded }
-
+-- the places that a row lists
 pub row_length : (r : Row) → length (row_pairs r) ≡ r.size
 row_length r = length-take-le r.size r.pairs (subst (λ k. r.size ≤ k) (sym r.whole) r.fits)
 

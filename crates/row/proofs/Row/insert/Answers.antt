@@ -6,7 +6,8 @@ use Rattle.store.proofs.Range.{ranged_raised}
 use Rattle.store.proofs.Raising.{means_raised, total_raised}
 use Rattle.row.specs.Rows.{row_pairs, sought}
 use Rattle.row.proofs.Places.{place_within}
-use Rattle.row.proofs.Kept.{kept, row_means, row_length}
+use Rattle.row.specs.Laws.{row_means}
+use Rattle.row.proofs.Kept.{kept, row_length}
 use Rattle.row.proofs.Raising.{sought_err, raised_new}
 use Rattle.row.proofs.Row.insert.Goals as goal
 

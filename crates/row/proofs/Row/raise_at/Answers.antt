@@ -5,7 +5,8 @@ use Rattle.store.proofs.Raising.{means_raised, total_raised}
 use Rattle.store.proofs.Range.{ranged_raised}
 use Rattle.store.proofs.Parts.{total_taken}
 use Rattle.row.specs.Rows.{row_pairs}
-use Rattle.row.proofs.Kept.{kept, row_means, row_length, ranged_at}
+use Rattle.row.specs.Laws.{row_means}
+use Rattle.row.proofs.Kept.{kept, row_length, ranged_at}
 use Rattle.row.proofs.Raising.{raised_front}
 use Rattle.row.proofs.Row.raise_at.Goals as goal
 

@@ -3,7 +3,8 @@ use Rattle.store.specs.Pairs.{halved_pairs}
 use Rattle.store.proofs.Halving.{means_halved, total_halved}
 use Rattle.store.proofs.Range.{ranged_halved}
 use Rattle.row.specs.Rows.{row_pairs}
-use Rattle.row.proofs.Kept.{kept, row_means}
+use Rattle.row.specs.Laws.{row_means}
+use Rattle.row.proofs.Kept.{kept}
 use Rattle.row.proofs.as_store.RowBucketStore.halve.Goals as goal
 
 pub invariant_of-self : goal.invariant_of-self

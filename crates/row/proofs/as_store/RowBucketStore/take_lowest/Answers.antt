@@ -5,7 +5,8 @@ use Rattle.store.proofs.Range.{ranged_taken}
 use Rattle.store.proofs.Taking.{means_taken}
 use Rattle.row.specs.declared.Row.{Row}
 use Rattle.row.specs.Rows.{row_pairs}
-use Rattle.row.proofs.Kept.{kept, row_means, row_length, row_at, row_pair, total_rest}
+use Rattle.row.specs.Laws.{row_means}
+use Rattle.row.proofs.Kept.{kept, row_length, row_at, row_pair, total_rest}
 use Rattle.row.proofs.as_store.RowBucketStore.take_lowest.Goals as goal
 
 -- the lowest count and the total of the others
