@@ -9,31 +9,18 @@ use Rattle.row.specs.declared.Row.{Row}
 use Rattle.row.specs.Rows.{row_pairs}
 
 -- the facts of a row with the table t, the size n and the total s, which lists ps
-pub kept : (t : Pairs) (n s : ℕ) (ps : Pairs) → length t ≡ 320 → n ≤ 320 → take n t ≡ ps → Means ps → T (ranged ps) → s ≡ total ps → (length t ≡ 320) × ((n ≤ 320) × (T (rising (take n t)) × (T (counted (take n t)) × ((total (take n t) < 2 ^ 64) × (T (ranged (take n t)) × ((s ≡ total (take n t)) × Unit {0}))))))
-kept t n s ps whole fits e m ranges sums = (
-  whole,
-  (
-    fits,
-    (
-      subst (λ (qs : Pairs). T (rising qs)) (sym e) m.rises,
-      (
-        subst (λ (qs : Pairs). T (counted qs)) (sym e) m.counts,
-        (
-          subst (λ (qs : Pairs). total qs < 2 ^ 64) (sym e) m.bounded,
-          (
-            subst (λ (qs : Pairs). T (ranged qs)) (sym e) ranges,
-            (sums ∙ ap total (sym e), tt),
-          ),
-        ),
-      ),
-    ),
-  ),
-)
+pub kept : (t : Pairs) (n s : ℕ) (ps : Pairs) → length t ≡ 320 → n ≤ 320 → take n t ≡ ps → Means ps → T (ranged ps) → s ≡ total ps → record { whole : length t ≡ 320; fits : n ≤ 320; rises : T (rising (take n t)); counts : T (counted (take n t)); bounded : total (take n t) < 2 ^ 64; ranges : T (ranged (take n t)); sums : s ≡ total (take n t) }
+kept t n s ps whole fits e m ranges sums = record {
+  whole = whole;
+  fits = fits;
+  rises = subst (λ (qs : Pairs). T (rising qs)) (sym e) m.rises;
+  counts = subst (λ (qs : Pairs). T (counted qs)) (sym e) m.counts;
+  bounded = subst (λ (qs : Pairs). total qs < 2 ^ 64) (sym e) m.bounded;
+  ranges = subst (λ (qs : Pairs). T (ranged qs)) (sym e) ranges;
+  sums = sums ∙ ap total (sym e);
+}
 
--- and what such a row means
-pub row_means : (r : Row) → Means (row_pairs r)
-row_means r = record { rises = r.rises; counts = r.counts; bounded = r.bounded }
-
+-- the places that a row lists
 pub row_length : (r : Row) → length (row_pairs r) ≡ r.size
 row_length r = length-take-le r.size r.pairs (subst (λ k. r.size ≤ k) (sym r.whole) r.fits)
 

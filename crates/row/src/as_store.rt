@@ -1,7 +1,7 @@
 // A row is a store of buckets.
 ghost use Rattle.std.specs.Prelude.{◌≡◌, []};
 ghost use Rattle.row.specs.Rows.{row_pairs, row_room};
-ghost use Rattle.std.proofs.Common.{rules, arith};
+ghost use Rattle.row.specs.Laws.{row_means, row_ranged, row_roomy};
 
 use crate::halving::halve_all;
 use crate::shift::remove_first;
@@ -27,11 +27,11 @@ impl BucketStore for Row {
 
     ghost room = { λ r. row_room (row_pairs r) };
 
-    ghost means = { first_of (Prim.search rules, Prim.grind (arith, Self.row.coded.inj)) };
+    ghost means = { row_means };
 
-    ghost in_range = { first_of (Prim.search rules, Prim.grind (arith, Self.row.coded.inj)) };
+    ghost in_range = { row_ranged };
 
-    ghost roomy = { first_of (Prim.search rules, Prim.grind (arith, Self.row.coded.inj)) };
+    ghost roomy = { row_roomy };
 
     fn size(&self) -> usize {
         self.size

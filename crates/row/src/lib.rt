@@ -2,7 +2,7 @@
 #![tactic(auto)]
 
 ghost use Rattle.std.specs.Prelude.{◌≡◌, ◌^◌, ◌<◌, ◌≤◌, T, length, take};
-ghost use Rattle.store.specs.Pairs.{rising, counted, ranged, total as all-counts};
+ghost use Rattle.store.specs.Pairs.{rising, counted, ranged, total as all_counts};
 
 mod adding;
 mod as_store;
@@ -25,7 +25,7 @@ pub struct Row {
     ghost fits: { size ≤ 320 },
     ghost rises: { T (rising (take size pairs)) },
     ghost counts: { T (counted (take size pairs)) },
-    ghost bounded: { all-counts (take size pairs) < 2 ^ 64 },
+    ghost bounded: { all_counts (take size pairs) < 2 ^ 64 },
     ghost ranges: { T (ranged (take size pairs)) },
-    ghost sums: { total ≡ all-counts (take size pairs) },
+    ghost sums: { total ≡ all_counts (take size pairs) },
 }

@@ -5,12 +5,13 @@ use Rattle.store.proofs.Raising.{means_raised, total_raised}
 use Rattle.store.proofs.Range.{ranged_raised}
 use Rattle.store.proofs.Parts.{total_taken}
 use Rattle.row.specs.Rows.{row_pairs}
-use Rattle.row.proofs.Kept.{kept, row_means, row_length, ranged_at}
+use Rattle.row.specs.Laws.{row_means}
+use Rattle.row.proofs.Kept.{kept, row_length, ranged_at}
 use Rattle.row.proofs.Raising.{raised_front}
 use Rattle.row.proofs.Row.raise_at.Goals as goal
 
-pub overflow-add-self : goal.overflow-add-self
-overflow-add-self c =
+pub overflow_add-self : goal.overflow_add-self
+overflow_add-self c =
     let t = c.args.self.now.pairs in
     let n : ℕ = c.args.self.now.size in
     let k : ℕ = c.args.position in
@@ -18,8 +19,8 @@ overflow-add-self c =
     let sum = c.args.self.now.sums in
     search rules
 
-pub invariant-of-self : goal.invariant-of-self
-invariant-of-self c =
+pub invariant_of-self : goal.invariant_of-self
+invariant_of-self c =
     let r = c.args.self.now in
     let k : ℕ = c.args.position in
     let i = (get_or (row_pairs r) k (pos 0, 0)).0 in

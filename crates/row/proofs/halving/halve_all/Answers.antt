@@ -7,8 +7,8 @@ use Rattle.store.specs.Pairs.{joined_last}
 use Rattle.row.proofs.Joins.{drop_further, drop_first, total_more, total_front, halved_step}
 use Rattle.row.proofs.halving.halve_all.Goals as goal
 
-pub join-last-used-requires : goal.join-last-used-requires
-join-last-used-requires c =
+pub join_last-used-requires : goal.join_last-used-requires
+join_last-used-requires c =
     let xs = c.args.table.now in
     let ys = c.loop-k.table in
     let k : ℕ = c.loop-k.k in
@@ -24,13 +24,13 @@ loop-k-preserved c =
     let ys = c.loop-k.table in
     let k : ℕ = c.loop-k.k in
     let f : SFits w32 (get_or ys c.loop-k.k (pos 0, 0)).0 = search rules in
-    let g : SFits w32 c.coarser-index.result = search rules in
-    let half : to_z w32 (of_z w32 c.coarser-index.result) ≡ halved (get_or ys c.loop-k.k (pos 0, 0)).0 =
-    to_z-of_z w32 _ g ∙ c.coarser-index.ensures.value ∙ ap halved (to_z-of_z w32 _ f) in (
+    let g : SFits w32 c.coarser_index.result = search rules in
+    let half : to_z w32 (of_z w32 c.coarser_index.result) ≡ halved (get_or ys c.loop-k.k (pos 0, 0)).0 =
+    to_z-of_z w32 _ g ∙ c.coarser_index.ensures.value ∙ ap halved (to_z-of_z w32 _ f) in (
       omega arith,
-      c.join-last-used.ensures.joins
+      c.join_last-used.ensures.joins
           ∙ ap (λ i. joined_last (take c.loop-k.used ys) (i, (get_or ys k (pos 0, 0)).1)) half
           ∙ halved_step xs ys k c.loop-k.used (pos 0, 0) (omega arith) c.loop-k.invariant.1 (drop_first ys xs k (pos 0, 0) c.loop-k.invariant.2),
-      drop_further c.join-last-used.new.table ys (c.loop-k.used + 1) (k + 1) (omega arith) c.join-last-used.ensures.beyond
+      drop_further c.join_last-used.new.table ys (c.loop-k.used + 1) (k + 1) (omega arith) c.join_last-used.ensures.beyond
           ∙ drop_further ys xs k (k + 1) (omega arith) c.loop-k.invariant.2,
     )

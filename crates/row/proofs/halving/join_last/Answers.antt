@@ -6,8 +6,8 @@ use Rattle.row.proofs.Joins.{join_meets, join_apart}
 use Rattle.row.proofs.halving.join_last.Goals as goal
 use Rattle.row.proofs.halving.join_last.Goals.{else-used-gt0-via-then-used-gt0+else-table-used, else-used-gt0-via-else-used-gt0}
 
-pub overflow-add-table : goal.overflow-add-table
-overflow-add-table c =
+pub overflow_add-table : goal.overflow_add-table
+overflow_add-table c =
     let t = c.args.table.now in
     let n : ℕ = c.args.used in
     let most = total_taken t n (n - 1) (pos 0, 0) (omega arith) (omega arith) in

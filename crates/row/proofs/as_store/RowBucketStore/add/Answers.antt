@@ -29,8 +29,8 @@ stands r i k f e = sought_ok i (row_pairs r) k (e ∙ ap (λ j. sought j (row_pa
 goes : (r : Row) (i : ℤ) (k : ℕ) → SFits w32 i → Err k ≡ sought (to_z w32 (of_z w32 i)) (row_pairs r) → (listed i (row_pairs r) ≡ false) × (place i (row_pairs r) ≡ k)
 goes r i k f e = sought_err i (row_pairs r) k (e ∙ ap (λ j. sought j (row_pairs r)) (back i f))
 
-pub raise-at-requires : goal.raise-at-requires
-raise-at-requires c =
+pub raise_at-requires : goal.raise_at-requires
+raise_at-requires c =
     let r = c.args.self.now in
     let i = c.args.index in
     let h = stands r i c.in-Ok.position c.ranges.index c.in-Ok.ensures in
@@ -50,8 +50,8 @@ returns-in-Ok c =
     let at : (get_or (row_pairs r) c.in-Ok.position (pos 0, 0)).0 ≡ i =
     ap (λ k. (get_or ps k (pos 0, 0)).0) (sym h.1) ∙ index_at_place i ps (pos 0, 0) r.rises h.0 in
     record {
-      allowed = allowed ps (row_room ps) i (ranges i _ c.ranges.index c.in-index-range.ensures c.if-not-in-index-range.false) (spare r c.if-self.false) (room_listed i ps h.0);
-      raises = c.raise-at.ensures ∙ ap (λ j. raised j ps) at;
+      allowed = allowed ps (row_room ps) i (ranges i _ c.ranges.index c.in_index_range.ensures c.if-not-in_index_range.false) (spare r c.if-self.false) (room_listed i ps h.0);
+      raises = c.raise_at.ensures ∙ ap (λ j. raised j ps) at;
     }
 
 pub returns-then-self-eq-CAPACITY : goal.returns-then-self-eq-CAPACITY
@@ -64,7 +64,7 @@ returns-then-self-eq-CAPACITY c =
     let e : r.size ≡ 320 = c.if-self-eq-CAPACITY.true in
     record {
       because =
-          no_room ps (row_room ps) i (ranges i _ c.ranges.index c.in-index-range.ensures c.if-not-in-index-range.false) (spare r c.if-self.false) (room_none i ps h.0 (omega arith))
+          no_room ps (row_room ps) i (ranges i _ c.ranges.index c.in_index_range.ensures c.if-not-in_index_range.false) (spare r c.if-self.false) (room_none i ps h.0 (omega arith))
           ∙ ap (λ j. Some (7, j)) (sym (back i c.ranges.index));
       unchanged = refl;
     }
@@ -76,6 +76,6 @@ returns-else-self-eq-CAPACITY c =
     let ps = row_pairs r in
     let n = row_length r in
     record {
-      allowed = allowed ps (row_room ps) i (ranges i _ c.ranges.index c.in-index-range.ensures c.if-not-in-index-range.false) (spare r c.if-self.false) (room_below i ps (omega arith));
+      allowed = allowed ps (row_room ps) i (ranges i _ c.ranges.index c.in_index_range.ensures c.if-not-in_index_range.false) (spare r c.if-self.false) (room_below i ps (omega arith));
       raises = c.insert.ensures ∙ ap (λ j. raised j ps) (back i c.ranges.index);
     }

@@ -16,6 +16,6 @@ pub returns-else-self-lt-CAPACITY : goal.returns-else-self-lt-CAPACITY
 returns-else-self-lt-CAPACITY c =
     let n = row_length c.args.self.now in
     let ps = row_pairs c.args.self.now in
-    c.is-ok.ensures.value
+    c.is_ok.ensures.value
     ∙ ap is_ok (c.search.ensures ∙ ap (λ i. sought i ps) (to_z-of_z w32 c.args.index c.ranges.index))
     ∙ room_full c.args.index ps (omega arith)
