@@ -25,7 +25,7 @@ pub overflow_add-result : goal.overflow_add-result
 overflow_add-result c = record { fits = omega (arith, bits c.args.mantissa c.requires.nonzero c.requires.digits) }
 
 pub float_from_bits-result : goal.float_from_bits-result
-float_from_bits-result c = no_nan _ (bits c.args.mantissa c.requires.nonzero c.requires.digits)
+float_from_bits-result c = no_nan _ (omega (arith, shifted c.args.mantissa c.requires.nonzero c.requires.digits, full_lt c.args.mantissa c.requires.digits))
 
 pub returns : goal.returns
 returns c = record {
