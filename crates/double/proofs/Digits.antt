@@ -1,7 +1,6 @@
 -- How many binary digits a number has, and the number that its 53 leading ones make.
-use Rattle.std.proofs.Common.{◌≡◌, ℕ, zero, suc, ◌+◌, ◌-◌, ◌*◌, ◌/◌, ◌%◌, ◌^◌, ◌<◌, ◌≤◌, ◌⊎◌, sym, refl, ap, ◌∙◌, subst, ap₂, inl, inr, ⊎_elim, le_trans, le_of_eq, lt_of_lt_of_le, lt_of_le_of_lt, le_of_lt, lt_irrefl, mul-le-mul_right, zero-lt-suc, mul_assoc, le_antisymm, mul-lt-mul_of_pos_right, mul-pos, lt_of_not-le, le-div_iff_mul-le, mul-one, div-mul-le_self, div-one, mul-div_cancel, arith, pow_pos, pow_mono, pow-add}
+use Rattle.std.proofs.Common.{◌≡◌, ℕ, zero, suc, ◌+◌, ◌-◌, ◌*◌, ◌/◌, ◌^◌, ◌<◌, ◌≤◌, sym, refl, ap, ◌∙◌, subst, ⊎_elim, le_trans, le_of_eq, lt_of_lt_of_le, lt_of_le_of_lt, le_of_lt, lt_irrefl, mul-le-mul_right, zero-lt-suc, mul_assoc, le_antisymm, mul-lt-mul_of_pos_right, lt_of_not-le, le-div_iff_mul-le, div-mul-le_self, arith, pow_pos, pow_mono, pow-add}
 use Rattle.std.proofs.lemmas.Bool.{cases_lt}
-use lib.Pow.{pow-lt}
 use lib.Ieee.{size}
 use lib.Ieee.Digits.{size-lt, size_reaches, size-le}
 

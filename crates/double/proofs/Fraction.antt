@@ -1,20 +1,20 @@
 -- The fraction of a double: its bits, and that it splits the magnitude.
-use Rattle.std.proofs.Common.{◌≡◌, ℕ, zero, suc, ◌+◌, ◌-◌, ◌*◌, ◌/◌, ◌%◌, ◌^◌, ◌<◌, ◌≤◌, Bool, true, false, cond, not, ◌&&◌, T, eqb, ltb, leb, ℤ, pos, negsuc, ◌+ℤ◌, ◌-ℤ◌, neg_ℤ, sym, refl, ap, ◌∙◌, subst, ap₂, le_trans, le_of_eq, le_refl, lt_of_lt_of_le, lt_of_le_of_lt, le_of_lt, lt_irrefl, mul-le-mul_right, zero-lt-suc, mul_assoc, add_comm, le_antisymm, mul-lt-mul_of_pos_right, mul-pos, one-mul, zero-mul, mul-one, mul_right_comm, mul-div_cancel, add-sub_cancel, arith, lit≤, le→leb, lt→ltb, pow_pos, pow_mono, pow-add, shl_lt, ltb-false, ltb-true, le-ltb, lt-ltb, eqb-true, le-leb}
+use Rattle.std.proofs.Common.{◌≡◌, ℕ, zero, suc, ◌+◌, ◌-◌, ◌*◌, ◌/◌, ◌%◌, ◌^◌, ◌<◌, ◌≤◌, Bool, true, false, cond, not, ◌&&◌, T, ltb, ℤ, pos, negsuc, ◌+ℤ◌, ◌-ℤ◌, neg_ℤ, sym, refl, ap, ◌∙◌, subst, ap₂, le_trans, le_of_eq, le_refl, lt_of_lt_of_le, lt_of_le_of_lt, lt_irrefl, mul-le-mul_right, zero-lt-suc, mul_assoc, add_comm, le_antisymm, mul-lt-mul_of_pos_right, mul-pos, one-mul, zero-mul, mul-one, mul_right_comm, mul-div_cancel, arith, lit≤, le→leb, lt→ltb, pow_pos, pow_mono, pow-add, shl_lt, ltb-false, ltb-true, le-ltb, lt-ltb, eqb-true, le-leb}
 use native.Mathlib.Nat.{eq_of_mul-eq-mul_right}
 use borrow.Author.Tests.{clash}
 use borrow.Author.Differences.{ints}
 use lib.IntN.{sub_ℕ}
 use lib.Count.{count_leading_zeros, leading_top}
-use lib.Ieee.{Float, nan, inf, fin, binary64, prec, low, emax, up, down, size, fits, is_nan, le, lt, eq, level, nan_bits, of_bits}
+use lib.Ieee.{Float, nan, inf, fin, binary64, up, down, size, fits, is_nan, lt, eq, level, nan_bits, of_bits}
 use Rattle.std.specs.Float.{float_is_finite}
 use lib.Ieee.Bits.{nan_bits_above, of_bits-fits}
 use lib.Ieee.Digits.{size-lt, size-le, back}
 use lib.Ieee.Fits.{up_pos, and_i, and_l, and_r}
 use Rattle.double.specs.Double.{Number, units, magnitude, pattern, fraction, exponent, finite_nonzero, half, one, Splits}
 use Rattle.double.proofs.Scale.{lift, lift_scale, pow_le_back, ltb_scaled}
-use Rattle.double.proofs.Order.{odd, fits_odd, fits_digits, fits_low, units_lift, units_exact, lt_units, le_units}
+use Rattle.double.proofs.Order.{fits_digits, fits_low, units_lift, lt_units, le_units}
 use Rattle.double.proofs.Digits.{size_is, size_shift, top_digit, kept, kept_le, kept_largest}
-use Rattle.double.proofs.Largest.{Holds, holds_units, holds_number, holds_magnitude, read_back, Kept, pattern_kept}
+use Rattle.double.proofs.Largest.{Holds, holds_units, holds_number, holds_magnitude, read_back, pattern_kept}
 
 -- ---- the bits of 53 digits
 

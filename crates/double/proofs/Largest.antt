@@ -1,13 +1,13 @@
 -- The double of n units, and that `largest n` is the largest double that is at most n units.
-use Rattle.std.proofs.Common.{◌≡◌, ℕ, zero, suc, ◌+◌, ◌-◌, ◌*◌, ◌/◌, ◌^◌, ◌<◌, ◌≤◌, min, Bool, true, false, cond, not, T, ltb, leb, ◌⊎◌, ℤ, pos, negsuc, sym, refl, ap, ◌∙◌, subst, ap₂, inl, inr, ⊎_elim, le_trans, le_of_eq, lt_of_lt_of_le, lt_of_le_of_lt, le_of_lt, add_assoc, mul_comm, zero-add, mul-one, div-one, mul-div_cancel, arith, pow_pos, pow-add, le-ltb, lt-ltb, le-leb}
+use Rattle.std.proofs.Common.{◌≡◌, ℕ, ◌+◌, ◌-◌, ◌*◌, ◌/◌, ◌^◌, ◌<◌, ◌≤◌, min, Bool, false, cond, not, T, ltb, leb, ◌⊎◌, sym, refl, ap, ◌∙◌, subst, inl, inr, ⊎_elim, le_trans, le_of_eq, lt_of_le_of_lt, le_of_lt, zero-add, mul-div_cancel, arith, pow_pos, le-ltb, lt-ltb, le-leb}
 use borrow.Author.Tests.{lt-leb}
-use lib.Ieee.{Float, nan, inf, fin, binary64, prec, emax, low, up, down, size, fits, is_nan, lt, le, odd, to_bits, of_bits}
+use lib.Ieee.{Float, nan, inf, fin, binary64, down, size, fits, is_nan, lt, le, odd, to_bits, of_bits}
 use lib.Ieee.Bits.{of_bits-to_bits, of_bits-fits}
 use lib.Ieee.Exact.{HasValue, odd_sign}
 use lib.Ieee.Fits.{down_pos, odd-fits, kept-lt, inf-fits}
 use Rattle.std.proofs.lemmas.Bool.{cases_lt}
 use Rattle.double.specs.Double.{Number, units, magnitude, pattern, largest}
-use Rattle.double.proofs.Scale.{lift, lift_units}
+use Rattle.double.proofs.Scale.{lift}
 use Rattle.double.proofs.Order.{fits_digits, fits_low, units_under, lt_units, le_units, units_lift}
 use Rattle.double.proofs.Digits.{kept, kept_le, kept_size, kept_largest}
 

@@ -1,13 +1,12 @@
 -- The bits of a finite double that is not zero: q × 2^k units are written as k × 2^52 + q.
-use Rattle.std.proofs.Common.{◌≡◌, ℕ, zero, suc, ◌+◌, ◌-◌, ◌*◌, ◌/◌, ◌%◌, ◌^◌, ◌<◌, ◌≤◌, Bool, true, false, cond, not, T, ◌⊎◌, ℤ, pos, negsuc, sym, refl, ap, ◌∙◌, subst, ap₂, inl, inr, ⊎_elim, le_trans, le_of_eq, lt_of_lt_of_le, lt_of_le_of_lt, le_of_lt, lt_irrefl, zero-lt-suc, eq-zero-or-pos, le_antisymm, mul-pos, le-div_iff_mul-le, zero-mul, arith, pow_pos, pow-add, le-ltb}
-use lib.Ieee.{Float, nan, inf, fin, binary64, size, fits, is_nan, to_bits, nan_bits}
-use lib.Ieee.Bits.{nan_bits_above}
+use Rattle.std.proofs.Common.{◌≡◌, ℕ, zero, suc, ◌+◌, ◌-◌, ◌*◌, ◌/◌, ◌%◌, ◌^◌, ◌<◌, ◌≤◌, Bool, true, false, cond, T, ◌⊎◌, ℤ, sym, refl, ap, ◌∙◌, subst, ap₂, inl, inr, ⊎_elim, le_trans, le_of_eq, lt_of_lt_of_le, lt_of_le_of_lt, lt_irrefl, zero-lt-suc, eq-zero-or-pos, le_antisymm, mul-pos, le-div_iff_mul-le, zero-mul, arith, pow_pos, pow-add}
+use lib.Ieee.{Float, nan, inf, fin, binary64, size, fits, to_bits}
 use lib.Ieee.Digits.{size-le, size_reaches}
 use lib.Ieee.Fits.{kept-lt}
 use Rattle.double.specs.Double.{units, finite_nonzero}
 use Rattle.double.proofs.Scale.{lift}
 use Rattle.double.proofs.Order.{fits_digits, fits_low, units_under, units_lift}
-use Rattle.double.proofs.Digits.{kept, kept_le, kept_largest}
+use Rattle.double.proofs.Digits.{kept_le, kept_largest}
 
 pub passes : (b : Bool) → b ≡ true → T b
 passes b e = subst T (sym e) tt

@@ -1,12 +1,11 @@
-use Rattle.std.proofs.Common.{◌≡◌, ℕ, zero, suc, ◌+◌, ◌*◌, ◌^◌, ◌<◌, Bool, true, false, not, T, ℤ, pos, negsuc, ◌-ℤ◌, ◌≤ℤ◌, sym, refl, ap, ◌∙◌, subst, ap₂, arith, T_not, w32, to_z, of_z}
+use Rattle.std.proofs.Common.{◌≡◌, ℕ, zero, suc, ◌+◌, ◌<◌, not, T, ℤ, pos, negsuc, ◌-ℤ◌, ◌≤ℤ◌, sym, refl, ap, ◌∙◌, subst, arith, T_not, w32, to_z, of_z}
 use borrow.Author.Differences.{ints}
-use lib.Ieee.{Float, nan, inf, fin, binary64, eq, fits, of_bits, size}
-use Rattle.std.specs.Float.{float_is_finite}
-use Rattle.double.specs.Double.{fraction, exponent, finite_nonzero, units, zero_double, Splits}
+use lib.Ieee.{Float, nan, inf, fin, binary64, fits, of_bits}
+use Rattle.double.specs.Double.{fraction, exponent, finite_nonzero, zero_double, Splits}
 use Rattle.double.proofs.Shape.{passes}
-use Rattle.double.proofs.Fraction.{nonzero_tested, infinite_tested, zero_tested, splits, full, Parts, parts}
+use Rattle.double.proofs.Fraction.{nonzero_tested, infinite_tested, zero_tested, splits, Parts, parts}
 use Rattle.double.proofs.frexp.Goals as goal
-use Rattle.double.proofs.frexp.Goals.{then-not-is-finite-via-then-not-is-finite, then-not-is-finite-via-else-not-is-finite+then-v}
+use Rattle.double.proofs.frexp.Goals.{then-not-is_finite-via-then-not-is_finite, then-not-is_finite-via-else-not-is_finite+then-v}
 
 -- the contract, of the pair (f, x)
 abbrev Met : Float → Float → ℤ → Type 0
@@ -27,16 +26,16 @@ some v f x h g p q r = record {
   nothing = λ n. absurd (T_not (finite_nonzero v) n g);
 }
 
-pub returns-then-not-is-finite : goal.returns-then-not-is-finite
-returns-then-not-is-finite c =
+pub returns-then-not-is_finite : goal.returns-then-not-is_finite
+returns-then-not-is_finite c =
     none c.args.v
-    (elim c.then-not-is-finite.branch [
-      | then-not-is-finite-via-then-not-is-finite w ↦ infinite_tested c.args.v (sym w.if-not-is-finite.ensures.value)
-      | then-not-is-finite-via-else-not-is-finite+then-v w ↦ zero_tested c.args.v w.if-v.true
+    (elim c.then-not-is_finite.branch [
+      | then-not-is_finite-via-then-not-is_finite w ↦ infinite_tested c.args.v (sym w.if-not-is_finite.ensures.value)
+      | then-not-is_finite-via-else-not-is_finite+then-v w ↦ zero_tested c.args.v w.if-v.true
     ])
 
 pub split-mantissa-requires : goal.split-mantissa-requires
-split-mantissa-requires c = nonzero_tested c.args.v (sym c.if-not-is-finite.ensures.value) c.if-v.false
+split-mantissa-requires c = nonzero_tested c.args.v (sym c.if-not-is_finite.ensures.value) c.if-v.false
 
 narrow : (k z : ℕ) → k < 2046 → z < 54 → to_z w32 (of_z w32 (to_z w32 (k + z) -ℤ pos 1074)) ≡ pos (k + z) -ℤ pos 1074
 narrow k z h g = omega (arith, ints)
@@ -49,8 +48,8 @@ returns c =
     let v = c.args.v in
     let s = c.split-mantissa in
     let n = c.normalize-fraction in
-    let h : T (finite_nonzero v) = nonzero_tested v (sym c.if-not-is-finite.ensures.value) c.if-v.false in
-    let p : Parts v s.result.0 s.result.1 = parts v s.result.0 s.result.1 (passes _ c.well-formed.0.1) h s.ensures.nonzero s.ensures.digits s.ensures.whole in
-    some v n.result.0 _ (passes _ c.well-formed.0.1) h (n.ensures.fraction ∙ p.bits)
+    let h : T (finite_nonzero v) = nonzero_tested v (sym c.if-not-is_finite.ensures.value) c.if-v.false in
+    let p : Parts v s.result.0 s.result.1 = parts v s.result.0 s.result.1 (passes _ c.well_formed.0.1) h s.ensures.nonzero s.ensures.digits s.ensures.whole in
+    some v n.result.0 _ (passes _ c.well_formed.0.1) h (n.ensures.fraction ∙ p.bits)
     (narrow s.result.1 n.result.1 s.ensures.small n.ensures.small ∙ ap (λ (z : ℕ). pos (s.result.1 + z) -ℤ pos 1074) n.ensures.digits ∙ sym p.power)
     (limits s.result.1 n.result.1 s.ensures.small n.ensures.small)

@@ -1,4 +1,4 @@
-use Rattle.std.proofs.Common.{◌≡◌, ℕ, ◌+◌, ◌-◌, ◌*◌, ◌%◌, ◌^◌, ◌<◌, ◌≤◌, sym, ap, ◌∙◌, subst, le_of_eq, lt_of_lt_of_le, lt_of_le_of_lt, arith, w64, Fits}
+use Rattle.std.proofs.Common.{◌≡◌, ℕ, ◌+◌, ◌-◌, ◌*◌, ◌%◌, ◌^◌, ◌<◌, ◌≤◌, ap, ◌∙◌, arith}
 use lib.Count.{count_leading_zeros}
 use lib.Ieee.{size, binary64, of_bits}
 use lib.Ieee.Digits.{size-le}
@@ -18,14 +18,14 @@ shifted m h g = ap (λ (z : ℕ). m * 2 ^ (53 - z) % 2 ^ 64) (digits m h g) ∙ 
 bits : (m : ℕ) → 0 < m → m < 2 ^ 53 → 1021 * 2 ^ 52 + m * 2 ^ (53 - (64 - count_leading_zeros 64 m)) % 2 ^ 64 ≤ 2047 * 2 ^ 52
 bits m h g = omega (arith, shifted m h g, full_lt m g)
 
-pub overflow-sub-result : goal.overflow-sub-result
-overflow-sub-result c = omega (arith, digits c.args.mantissa c.requires.nonzero c.requires.digits, size-le c.args.mantissa 53 c.requires.digits)
+pub overflow_sub-result : goal.overflow_sub-result
+overflow_sub-result c = omega (arith, digits c.args.mantissa c.requires.nonzero c.requires.digits, size-le c.args.mantissa 53 c.requires.digits)
 
-pub overflow-add-result : goal.overflow-add-result
-overflow-add-result c = record { fits = omega (arith, bits c.args.mantissa c.requires.nonzero c.requires.digits) }
+pub overflow_add-result : goal.overflow_add-result
+overflow_add-result c = record { fits = omega (arith, bits c.args.mantissa c.requires.nonzero c.requires.digits) }
 
-pub float-from-bits-result : goal.float-from-bits-result
-float-from-bits-result c = no_nan _ (bits c.args.mantissa c.requires.nonzero c.requires.digits)
+pub float_from_bits-result : goal.float_from_bits-result
+float_from_bits-result c = no_nan _ (omega (arith, shifted c.args.mantissa c.requires.nonzero c.requires.digits, full_lt c.args.mantissa c.requires.digits))
 
 pub returns : goal.returns
 returns c = record {

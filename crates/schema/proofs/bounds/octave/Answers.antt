@@ -16,8 +16,8 @@ count c =
     let e = bounds_length c.args.a c.entries.result.now c.requires c.entries.ensures in
     record { some = omega (arith, pow_pos c.args.a); few = omega (arith, few_entries c.args.a c.requires) }
 
-pub overflow-cast-count : goal.overflow-cast-count
-overflow-cast-count c = let s = count c in omega (arith, ints)
+pub overflow_cast-count : goal.overflow_cast-count
+overflow_cast-count c = let s = count c in omega (arith, ints)
 
 record Divisor (n : ℕ) (i : ℤ) : Type 0 where
   pub nonzero : 0 < of_z w32 (to_z w32 n)
@@ -26,11 +26,11 @@ record Divisor (n : ℕ) (i : ℤ) : Type 0 where
 divisor : (n : ℕ) (i : ℤ) → Small n → Divisor n i
 divisor n i s = record { nonzero = omega (arith, of_z-to_z w32 n (omega arith)); fits = λ e _. omega (arith, of_z-to_z w32 n (omega arith)) }
 
-pub div-euclid-requires : goal.div-euclid-requires
-div-euclid-requires c = let d = divisor (length c.entries.result.now) c.args.index (count c) in record { nonzero = d.nonzero; no_overflow = d.fits }
+pub div_euclid-requires : goal.div_euclid-requires
+div_euclid-requires c = let d = divisor (length c.entries.result.now) c.args.index (count c) in record { nonzero = d.nonzero; no_overflow = d.fits }
 
-pub rem-euclid-requires : goal.rem-euclid-requires
-rem-euclid-requires c =
+pub rem_euclid-requires : goal.rem_euclid-requires
+rem_euclid-requires c =
     let e = bounds_length c.args.a c.entries.result.now c.requires c.entries.ensures in
     let s : Small (length c.entries.result.now) = record { some = omega (arith, pow_pos c.args.a); few = omega (arith, few_entries c.args.a c.requires) } in
     let d = divisor (length c.entries.result.now) c.args.index s in record { nonzero = d.nonzero; no_overflow = d.fits }
@@ -44,11 +44,11 @@ returns c =
     let e = bounds_length c.args.a c.entries.result.now c.requires c.entries.ensures in
     let few : length c.entries.result.now ≤ 256 = omega (arith, few_entries c.args.a c.requires) in
     let fi : SFits w32 i = search rules in
-    let fq : SFits w32 c.div-euclid.result = search rules in
-    let fr : SFits w32 c.rem-euclid.result = search rules in
+    let fq : SFits w32 c.div_euclid.result = search rules in
+    let fr : SFits w32 c.rem_euclid.result = search rules in
     record {
       octave =
-          to_z-of_z w32 c.div-euclid.result fq ∙ c.div-euclid.ensures ∙ ap₂ int_div_euclid (to_z-of_z w32 i fi) (to_z_pos w32 (length c.entries.result.now) (small _ few)) ∙ quotient_is i (length c.entries.result.now) ∙ ap (λ (d : ℕ). quotient d i) e;
+          to_z-of_z w32 c.div_euclid.result fq ∙ c.div_euclid.ensures ∙ ap₂ int_div_euclid (to_z-of_z w32 i fi) (to_z_pos w32 (length c.entries.result.now) (small _ few)) ∙ quotient_is i (length c.entries.result.now) ∙ ap (λ (d : ℕ). quotient d i) e;
       place =
-          ap nat_abs (to_z-of_z w32 c.rem-euclid.result fr ∙ c.rem-euclid.ensures.value ∙ ap₂ int_rem_euclid (to_z-of_z w32 i fi) (to_z_pos w32 (length c.entries.result.now) (small _ few))) ∙ remainder_is i (length c.entries.result.now) ∙ ap (λ (d : ℕ). remainder d i) e;
+          ap nat_abs (to_z-of_z w32 c.rem_euclid.result fr ∙ c.rem_euclid.ensures.value ∙ ap₂ int_rem_euclid (to_z-of_z w32 i fi) (to_z_pos w32 (length c.entries.result.now) (small _ few))) ∙ remainder_is i (length c.entries.result.now) ∙ ap (λ (d : ℕ). remainder d i) e;
     }

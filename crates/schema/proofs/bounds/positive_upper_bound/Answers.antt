@@ -18,12 +18,12 @@ pub returns-then-schema-ge0 : goal.returns-then-schema-ge0
 returns-then-schema-ge0 c =
     let fi : SFits w32 c.args.index = search rules in
     let fs : SFits w8 c.args.schema.value = search rules in
-    let m = met c.args.schema.value c.args.index c.table-bound.result c.args.schema.known (c.table-bound.ensures ∙ ap₂ bound (fine c.args.schema.value fs c.if-schema-ge0.true) (to_z-of_z w32 c.args.index fi)) in
+    let m = met c.args.schema.value c.args.index c.table_bound.result c.args.schema.known (c.table_bound.ensures ∙ ap₂ bound (fine c.args.schema.value fs c.if-schema-ge0.true) (to_z-of_z w32 c.args.index fi)) in
     record { value = m.value; largest = m.largest; rises = m.rises }
 
 pub returns-else-schema-ge0 : goal.returns-else-schema-ge0
 returns-else-schema-ge0 c =
     let fi : SFits w32 c.args.index = search rules in
     let fs : SFits w8 c.args.schema.value = search rules in
-    let m = met c.args.schema.value c.args.index c.power-bound.result c.args.schema.known (c.power-bound.ensures ∙ ap₂ bound (wide c.args.schema.value c.args.schema.known c.if-schema-ge0.false) (to_z-of_z w32 c.args.index fi)) in
+    let m = met c.args.schema.value c.args.index c.power_bound.result c.args.schema.known (c.power_bound.ensures ∙ ap₂ bound (wide c.args.schema.value c.args.schema.known c.if-schema-ge0.false) (to_z-of_z w32 c.args.index fi)) in
     record { value = m.value; largest = m.largest; rises = m.rises }

@@ -38,10 +38,10 @@ few n h = pow_mono {j = 4} h
 product_at : (c : goal.After-from-2) → Product c.args.index (to_z w64 (of_z w64 c.from.result) *ℤ to_z w64 (of_z w64 c.from-2.result)) (2 ^ c.args.n)
 product_at c =
     let fi : SFits w32 c.args.index = search rules in
-    product c.args.index c.from.result c.from-2.result c.octaves-wide.result (2 ^ c.args.n) fi c.from.ensures (few c.args.n c.requires.high) c.octaves-wide.ensures c.from-2.ensures
+    product c.args.index c.from.result c.from-2.result c.octaves_wide.result (2 ^ c.args.n) fi c.from.ensures (few c.args.n c.requires.high) c.octaves_wide.ensures c.from-2.ensures
 
-pub overflow-add-power : goal.overflow-add-power
-overflow-add-power c = fits_sum _ _ _ (product_at c)
+pub overflow_add-power : goal.overflow_add-power
+overflow_add-power c = fits_sum _ _ _ (product_at c)
 
 pub scale-requires : goal.scale-requires
 scale-requires c = let l = limits _ _ _ (product_at c) in record { low = lit≤ tt; high = lit< tt; least = l.0; most = l.1 }
@@ -49,7 +49,7 @@ scale-requires c = let l = limits _ _ _ (product_at c) in record { low = lit≤ 
 pub returns : goal.returns
 returns c =
     let fi : SFits w32 c.args.index = search rules in
-    let p = product c.args.index c.from.result c.from-2.result c.octaves-wide.result (2 ^ c.args.n) fi c.from.ensures (few c.args.n c.requires.high) c.octaves-wide.ensures c.from-2.ensures in
+    let p = product c.args.index c.from.result c.from-2.result c.octaves_wide.result (2 ^ c.args.n) fi c.from.ensures (few c.args.n c.requires.high) c.octaves_wide.ensures c.from-2.ensures in
     c.scale.ensures
     ∙ ap (λ (x : ℤ). largest (scaled (2 ^ 52) (x +ℤ pos 1021))) (sum_is _ _ _ p ∙ ap (λ (z : ℤ). z +ℤ pos 1) p.is)
     ∙ ap largest (sym (cut_powers c.args.n c.args.index c.requires.low))

@@ -29,15 +29,15 @@ next k = omega (arith, ints)
 tested : (k : ℕ) (f b : Float) (t : Bool) → k < 12 → b ≡ growth (to_z w8 (of_z w8 (to_z w8 k -ℤ pos 4))) → le b f ≡ t → le (growth (pos k -ℤ pos 4)) f ≡ t
 tested k f b t h e q = ap (λ (s : ℤ). le (growth s) f) (sym (number k h)) ∙ ap (λ (x : Float). le x f) (sym e) ∙ q
 
-pub invariant-of-schema : goal.invariant-of-schema
-invariant-of-schema c = (known c.loop-step.step _ (omega arith) (number c.loop-step.step (omega arith)), tt)
+pub invariant_of-schema : goal.invariant_of-schema
+invariant_of-schema c = record { known = known c.loop-step.step _ (omega arith) (number c.loop-step.step (omega arith)) }
 
-pub returns-then-positive-upper-bound-factor : goal.returns-then-positive-upper-bound-factor
-returns-then-positive-upper-bound-factor c =
+pub returns-then-positive_upper_bound-factor : goal.returns-then-positive_upper_bound-factor
+returns-then-positive_upper_bound-factor c =
     let k = c.loop-step.step in
     let f = c.args.factor in
     let h : k < 12 = omega arith in
-    number k h ∙ sym (c.loop-step.invariant ∙ ap (λ (n : ℕ). first_from n (pos k -ℤ pos 4) f) (left k h) ∙ fitting_here (11 - k) (pos k -ℤ pos 4) f (tested k f c.positive-upper-bound.result true h c.positive-upper-bound.ensures.value c.if-positive-upper-bound-factor.true))
+    number k h ∙ sym (c.loop-step.invariant ∙ ap (λ (n : ℕ). first_from n (pos k -ℤ pos 4) f) (left k h) ∙ fitting_here (11 - k) (pos k -ℤ pos 4) f (tested k f c.positive_upper_bound.result true h c.positive_upper_bound.ensures.value c.if-positive_upper_bound-factor.true))
 
 pub loop-step-preserved : goal.loop-step-preserved
 loop-step-preserved c =
@@ -45,7 +45,7 @@ loop-step-preserved c =
     let f = c.args.factor in
     let h : k < 12 = omega arith in
     c.loop-step.invariant ∙ ap (λ (n : ℕ). first_from n (pos k -ℤ pos 4) f) (left k h)
-    ∙ fitting_later (11 - k) (pos k -ℤ pos 4) f (tested k f c.positive-upper-bound.result false h c.positive-upper-bound.ensures.value c.if-positive-upper-bound-factor.false)
+    ∙ fitting_later (11 - k) (pos k -ℤ pos 4) f (tested k f c.positive_upper_bound.result false h c.positive_upper_bound.ensures.value c.if-positive_upper_bound-factor.false)
     ∙ ap₂ (λ (n : ℕ) (s : ℤ). first_from n s f) (rest k h) (next k)
 
 pub loop-step-init : goal.loop-step-init

@@ -11,7 +11,7 @@ use Rattle.schema.specs.Bounds.{is_schema, finite_index, index, index_of, nonzer
 use Rattle.schema.specs.Laws.{Ranged}
 use Rattle.schema.proofs.Laws.{only_bucket, index_ranged}
 use Rattle.schema.proofs.indices.bucket_index.Goals as goal
-use Rattle.schema.proofs.indices.bucket_index.Goals.{then-is-nan-via-then-is-nan, then-is-nan-via-else-is-nan+then-v}
+use Rattle.schema.proofs.indices.bucket_index.Goals.{then-is_nan-via-then-is_nan, then-is_nan-via-else-is_nan+then-v}
 
 record Found (s : ℤ) (v : Float) (i : ℤ) : Type 0 where
   pub value : ◌≡◌ {A = Option ℤ} (Some i) (index_of s v)
@@ -76,36 +76,36 @@ plus_one z l h = omega (arith, ints)
 same_back : (z : ℤ) → negsuc 275199 ≤ℤ z → z ≤ℤ pos 262159 → to_z w32 (of_z w32 z) ≡ z
 same_back z l h = omega (arith, ints)
 
-pub returns-then-is-nan : goal.returns-then-is-nan
-returns-then-is-nan c =
+pub returns-then-is_nan : goal.returns-then-is_nan
+returns-then-is_nan c =
     let m = missed c.args.schema.value c.args.v
-    (elim c.then-is-nan.branch [
-      | then-is-nan-via-then-is-nan w ↦ nan_missed c.args.v (sym w.if-is-nan.ensures.value)
-      | then-is-nan-via-else-is-nan+then-v w ↦ zero_missed c.args.v (sym w.if-is-nan.ensures.value) w.if-v.true
+    (elim c.then-is_nan.branch [
+      | then-is_nan-via-then-is_nan w ↦ nan_missed c.args.v (sym w.if-is_nan.ensures.value)
+      | then-is_nan-via-else-is_nan+then-v w ↦ zero_missed c.args.v (sym w.if-is_nan.ensures.value) w.if-v.true
     ]) in
     record { value = m.value; bucket = m.bucket; range = tt }
 
-pub finite-index-requires : goal.finite-index-requires
+pub finite_index-requires : goal.finite_index-requires
 unfolding of_bits
-finite-index-requires c = tt
+finite_index-requires c = tt
 
-pub returns-then-is-infinite : goal.returns-then-is-infinite
-returns-then-is-infinite c =
+pub returns-then-is_infinite : goal.returns-then-is_infinite
+returns-then-is_infinite c =
     let s = c.args.schema.value in
     let v = c.args.v in
-    let r = c.finite-index.ensures.range in
-    let i = infinite_index s v (sym c.if-is-infinite.ensures.value) in
-    let f = found s v _ c.args.schema.known (passes _ c.well-formed.1.0.1) i.0 (plus_one c.finite-index.result r.0 r.1 ∙ ap (λ (z : ℤ). z +ℤ pos 1) (c.finite-index.ensures.value ∙ ap (finite_index s) largest_finite) ∙ sym i.1) in
+    let r = c.finite_index.ensures.range in
+    let i = infinite_index s v (sym c.if-is_infinite.ensures.value) in
+    let f = found s v _ c.args.schema.known (passes _ c.well_formed.1.0.1) i.0 (plus_one c.finite_index.result r.0 r.1 ∙ ap (λ (z : ℤ). z +ℤ pos 1) (c.finite_index.ensures.value ∙ ap (finite_index s) largest_finite) ∙ sym i.1) in
     record { value = f.value; bucket = f.bucket; range = f.range }
 
-pub finite-index-requires-2 : goal.finite-index-requires-2
-finite-index-requires-2 c = other_tested c.args.v (sym c.if-is-nan.ensures.value) c.if-v.false (sym c.if-is-infinite.ensures.value)
+pub finite_index-requires-2 : goal.finite_index-requires-2
+finite_index-requires-2 c = other_tested c.args.v (sym c.if-is_nan.ensures.value) c.if-v.false (sym c.if-is_infinite.ensures.value)
 
 pub returns : goal.returns
 returns c =
     let s = c.args.schema.value in
     let v = c.args.v in
-    let r = c.finite-index-2.ensures.range in
-    let i = other_index s v (sym c.if-is-nan.ensures.value) (other_tested v (sym c.if-is-nan.ensures.value) c.if-v.false (sym c.if-is-infinite.ensures.value)) in
-    let f = found s v _ c.args.schema.known (passes _ c.well-formed.1.0.1) i.0 (same_back c.finite-index-2.result r.0 r.1 ∙ c.finite-index-2.ensures.value ∙ sym i.1) in
+    let r = c.finite_index-2.ensures.range in
+    let i = other_index s v (sym c.if-is_nan.ensures.value) (other_tested v (sym c.if-is_nan.ensures.value) c.if-v.false (sym c.if-is_infinite.ensures.value)) in
+    let f = found s v _ c.args.schema.known (passes _ c.well_formed.1.0.1) i.0 (same_back c.finite_index-2.result r.0 r.1 ∙ c.finite_index-2.ensures.value ∙ sym i.1) in
     record { value = f.value; bucket = f.bucket; range = f.range }

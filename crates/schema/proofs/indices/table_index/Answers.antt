@@ -25,7 +25,7 @@ loop-low-preserved-then-bounds-middle c =
     let middle = low + (high - low) / 2 in
     let inside : middle < 2 ^ c.args.a = omega (arith, c.loop-low.invariant.inside) in
     narrowed_up c.args.a c.requires.known (numerator f) low high middle c.loop-low.invariant (omega arith) (omega arith)
-    (ltb-true _ _ (sym (tested c.args.a c.requires.known f (numerator f) middle nan (normal_own c.args.v f (ap (λ (p : Float × ℤ). p.0) c.frexp-fraction.ensures.value) (passes _ c.well-formed.1.0.1) c.requires.finite) inside) ∙ ap (λ (bs : List Float). lt (get_or bs middle nan) f) (sym c.entries-bounds.ensures) ∙ c.if-bounds-middle.true))
+    (ltb-true _ _ (sym (tested c.args.a c.requires.known f (numerator f) middle nan (normal_own c.args.v f (ap (λ (p : Float × ℤ). p.0) c.frexp-fraction.ensures.value) (passes _ c.well_formed.1.0.1) c.requires.finite) inside) ∙ ap (λ (bs : List Float). lt (get_or bs middle nan) f) (sym c.entries-bounds.ensures) ∙ c.if-bounds-middle.true))
 
 pub loop-low-preserved : goal.loop-low-preserved
 loop-low-preserved c =
@@ -35,7 +35,7 @@ loop-low-preserved c =
     let middle = low + (high - low) / 2 in
     let inside : middle < 2 ^ c.args.a = omega (arith, c.loop-low.invariant.inside) in
     narrowed_down c.args.a c.requires.known (numerator f) low high middle c.loop-low.invariant (omega arith) (omega arith)
-    (ltb-false _ _ (sym (tested c.args.a c.requires.known f (numerator f) middle nan (normal_own c.args.v f (ap (λ (p : Float × ℤ). p.0) c.frexp-fraction.ensures.value) (passes _ c.well-formed.1.0.1) c.requires.finite) inside) ∙ ap (λ (bs : List Float). lt (get_or bs middle nan) f) (sym c.entries-bounds.ensures) ∙ c.if-bounds-middle.false))
+    (ltb-false _ _ (sym (tested c.args.a c.requires.known f (numerator f) middle nan (normal_own c.args.v f (ap (λ (p : Float × ℤ). p.0) c.frexp-fraction.ensures.value) (passes _ c.well_formed.1.0.1) c.requires.finite) inside) ∙ ap (λ (bs : List Float). lt (get_or bs middle nan) f) (sym c.entries-bounds.ensures) ∙ c.if-bounds-middle.false))
 
 -- ---- the index
 
@@ -80,14 +80,14 @@ sum_is e p d low o = omega (arith, ints)
 sum_range : (e p z : ℤ) (d low : ℕ) → Octave e p d low → z ≡ p +ℤ pos low → (negsuc 275199 ≤ℤ z) × (z ≤ℤ pos 262144)
 sum_range e p z d low o q = (omega (arith, ints), omega (arith, ints))
 
-pub overflow-cast-result : goal.overflow-cast-result
-overflow-cast-result c = let f = entries_few c in omega (arith, ints)
+pub overflow_cast-result : goal.overflow_cast-result
+overflow_cast-result c = let f = entries_few c in omega (arith, ints)
 
-pub overflow-mul-result : goal.overflow-mul-result
-overflow-mul-result c = fits_product _ _ _ _ (octave_at c)
+pub overflow_mul-result : goal.overflow_mul-result
+overflow_mul-result c = fits_product _ _ _ _ (octave_at c)
 
-pub overflow-add-result : goal.overflow-add-result
-overflow-add-result c = fits_sum _ _ _ _ (octave_at c)
+pub overflow_add-result : goal.overflow_add-result
+overflow_add-result c = fits_sum _ _ _ _ (octave_at c)
 
 pub returns : goal.returns
 returns c =
@@ -99,7 +99,7 @@ returns c =
           s ∙ ap (λ (z : ℤ). z +ℤ pos c.loop-low.low) o.is
           ∙ ap₂ (λ (e : ℤ) (d : ℕ). (e -ℤ pos 1) *ℤ pos d +ℤ pos c.loop-low.low) (ap (λ (p : Float × ℤ). p.1) c.frexp-fraction.ensures.value) (bounds_length c.args.a c.entries-bounds.result.now c.requires.known c.entries-bounds.ensures)
           ∙ ap (λ (n : ℕ). (exponent c.args.v -ℤ pos 1) *ℤ pos (2 ^ c.args.a) +ℤ pos n)
-          (sym (narrowed_count c.args.a c.requires.known f (numerator f) c.loop-low.low c.loop-low.high (normal_own c.args.v f (ap (λ (p : Float × ℤ). p.0) c.frexp-fraction.ensures.value) (passes _ c.well-formed.1.0.1) c.requires.finite) c.loop-low.invariant (omega arith))
+          (sym (narrowed_count c.args.a c.requires.known f (numerator f) c.loop-low.low c.loop-low.high (normal_own c.args.v f (ap (λ (p : Float × ℤ). p.0) c.frexp-fraction.ensures.value) (passes _ c.well_formed.1.0.1) c.requires.finite) c.loop-low.invariant (omega arith))
           ∙ ap (λ (x : Float). entries_below x (table c.args.a)) (ap (λ (p : Float × ℤ). p.0) c.frexp-fraction.ensures.value));
       range = sum_range _ _ _ _ _ o s;
     }

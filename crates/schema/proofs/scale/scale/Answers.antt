@@ -17,11 +17,11 @@ negated p l h = omega (arith, ints)
 normal_bits : (x : ℤ) (m : ℕ) → pos 0 ≤ℤ x → x ≤ℤ pos 2045 → m < 2 ^ 53 → nat_abs x * 2 ^ 52 + m ≤ 2047 * 2 ^ 52
 normal_bits x m l h g = omega (arith, ints)
 
-pub float-from-bits-result : goal.float-from-bits-result
-float-from-bits-result c = no_nan _ (normal_bits (to_z w64 (of_z w64 (to_z w64 (of_z w64 c.args.power) +ℤ pos 1021))) c.args.mantissa (omega (arith, ints)) (omega (arith, ints)) c.requires.high)
+pub float_from_bits-result : goal.float_from_bits-result
+float_from_bits-result c = no_nan _ (normal_bits (to_z w64 (of_z w64 (to_z w64 (of_z w64 c.args.power) +ℤ pos 1021))) c.args.mantissa (omega (arith, ints)) (omega (arith, ints)) c.requires.high)
 
-pub float-from-bits-result-then-shift-gtminus53 : goal.float-from-bits-result-then-shift-gtminus53
-float-from-bits-result-then-shift-gtminus53 c = no_nan _ (le_trans (div-le_self c.args.mantissa _) (omega (arith, c.requires.high)))
+pub float_from_bits-result-then-shift-gtminus53 : goal.float_from_bits-result-then-shift-gtminus53
+float_from_bits-result-then-shift-gtminus53 c = no_nan _ (le_trans (div-le_self c.args.mantissa _) (omega (arith, c.requires.high)))
 
 pub returns-then-shift-gt2046 : goal.returns-then-shift-gt2046
 returns-then-shift-gt2046 c = at_shift c.args.power c.args.mantissa c.requires.least c.requires.most (made_huge c.args.mantissa _ c.requires.low (omega (arith, ints)))

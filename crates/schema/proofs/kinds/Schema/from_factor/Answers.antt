@@ -13,7 +13,7 @@ tested : (f : Float) → is_factor f ≡ lt (of_bits binary64 460718241880001740
 tested f = ap (λ (x : Float). lt x f) (sym one_is)
 
 pub returns-then-factor : goal.returns-then-factor
-returns-then-factor c = (subst T (sym (tested c.args.factor ∙ c.if-factor.true)) tt, (c.first-fitting.ensures, subst (Smallest c.args.factor) (sym c.first-fitting.ensures) (schema_smallest c.args.factor)))
+returns-then-factor c = (subst T (sym (tested c.args.factor ∙ c.if-factor.true)) tt, (c.first_fitting.ensures, subst (Smallest c.args.factor) (sym c.first_fitting.ensures) (schema_smallest c.args.factor)))
 
 pub returns-else-factor : goal.returns-else-factor
 returns-else-factor c = (subst (λ (b : Bool). T (not b)) (sym (tested c.args.factor ∙ c.if-factor.false)) tt, refl)

@@ -14,16 +14,16 @@ greatest : of_bits binary64 9218868437227405311 ≡ max_double
 unfolding of_bits
 greatest = refl
 
-pub float-from-bits-finite-index : goal.float-from-bits-finite-index
-float-from-bits-finite-index c = no_nan 1 (omega arith)
+pub float_from_bits-finite_index : goal.float_from_bits-finite_index
+float_from_bits-finite_index c = no_nan 1 (omega arith)
 
-pub finite-index-requires : goal.finite-index-requires
+pub finite_index-requires : goal.finite_index-requires
 unfolding of_bits
-finite-index-requires c = tt
+finite_index-requires c = tt
 
-pub finite-index-requires-2 : goal.finite-index-requires-2
+pub finite_index-requires-2 : goal.finite_index-requires-2
 unfolding of_bits
-finite-index-requires-2 c = tt
+finite_index-requires-2 c = tt
 
 plus_one : (z : ℤ) → negsuc 275199 ≤ℤ z → z ≤ℤ pos 262159 → to_z w32 (of_z w32 (to_z w32 (of_z w32 z) +ℤ pos 1)) ≡ z +ℤ pos 1
 plus_one z l h = omega (arith, ints)
@@ -35,10 +35,10 @@ pub returns : goal.returns
 returns c =
     let s = c.args.self.value in
     let e = schema_ends s c.args.self.known in
-    let a = c.finite-index.ensures in
-    let b = c.finite-index-2.ensures in
+    let a = c.finite_index.ensures in
+    let b = c.finite_index-2.ensures in
     record {
-      lowest = same_back c.finite-index.result a.range.0 a.range.1 ∙ a.value ∙ ap (finite_index s) smallest ∙ e.bottom;
-      highest = plus_one c.finite-index-2.result b.range.0 b.range.1 ∙ ap (λ (z : ℤ). z +ℤ pos 1) (b.value ∙ ap (finite_index s) greatest) ∙ e.top;
+      lowest = same_back c.finite_index.result a.range.0 a.range.1 ∙ a.value ∙ ap (finite_index s) smallest ∙ e.bottom;
+      highest = plus_one c.finite_index-2.result b.range.0 b.range.1 ∙ ap (λ (z : ℤ). z +ℤ pos 1) (b.value ∙ ap (finite_index s) greatest) ∙ e.top;
       reached = record { lowest = e.bottom; highest = e.top };
     }
