@@ -1,9 +1,8 @@
 -- The laws of the store of a plug, be it a row or a run.
-use Rattle.std.proofs.Common.{rules}
 use Rattle.std.specs.Prelude.{T}
 use Rattle.store.specs.Pairs.{Means, ranged}
 use Rattle.store.specs.Stores.{Roomy}
-use Rattle.row.proofs.Kept.{row_means}
+use Rattle.row.specs.Laws.{row_means, row_ranged, row_roomy}
 use Rattle.run.specs.Window.{counter}
 use Rattle.run.specs.Listings.{ranged_listing}
 use Rattle.run.specs.Windows.{window_of, window_means, window_roomy}
@@ -16,9 +15,9 @@ means_in (InRow row) = row_means row
 means_in (InRun run) = window_means (window_of run)
 
 pub ranged_in : (b : Buckets) → T (ranged (pairs_in b))
-ranged_in (InRow row) = row.ranges
+ranged_in (InRow row) = row_ranged row
 ranged_in (InRun run) = ranged_listing (counter run.counters) run.first run.span run.reach
 
 pub roomy_in : (b : Buckets) → Roomy (pairs_in b) (room_in b)
-roomy_in (InRow row) = search rules
+roomy_in (InRow row) = row_roomy row
 roomy_in (InRun run) = window_roomy (window_of run)
