@@ -1,10 +1,10 @@
-use Rattle.std.proofs.Common.{◌≡◌, ℕ, ◌+◌, ◌*◌, ◌^◌, ◌<◌, ◌≤◌, ℤ, pos, negsuc, ◌+ℤ◌, ◌≤ℤ◌, sym, ap, ◌∙◌, subst, ap₂, le_trans, le_of_eq, lt_of_le_of_lt, arith, pow_pos, w32, w64, SFits, to_z, of_z, rules}
+use Rattle.std.proofs.Common.{◌≡◌, ℕ, ◌^◌, ℤ, pos, negsuc, ◌+ℤ◌, ◌≤ℤ◌, sym, ap, ◌∙◌, ap₂, le_trans, le_of_eq, lt_of_le_of_lt, arith, pow_pos, w32, w64, SFits, to_z, of_z, rules}
 use borrow.Author.Differences.{ints}
 use Rattle.std.proofs.lemmas.Int.{to_z-of_z}
 use Rattle.index.specs.Index.{quotient, remainder}
 use Rattle.double.specs.Double.{largest}
 use Rattle.schema.specs.Tables.{entry}
-use Rattle.schema.specs.Bounds.{scaled, cut}
+use Rattle.schema.specs.Bounds.{scaled}
 use Rattle.schema.proofs.Divide.{remainder_lt}
 use Rattle.schema.proofs.Reading.{entry_full, cut_table}
 use Rattle.schema.proofs.bounds.table_bound.Goals as goal

@@ -1,10 +1,10 @@
-use Rattle.std.proofs.Common.{◌≡◌, ℕ, ◌+◌, ◌-◌, ◌*◌, ◌/◌, ◌^◌, ◌<◌, ◌≤◌, List, length, get_or, ℤ, pos, negsuc, ◌+ℤ◌, ◌-ℤ◌, ◌*ℤ◌, ◌≤ℤ◌, sym, refl, ap, ◌∙◌, subst, ap₂, arith, w32, SFits, to_z, of_z, rules, ltb-false, ltb-true}
+use Rattle.std.proofs.Common.{◌≡◌, ℕ, ◌+◌, ◌-◌, ◌/◌, ◌^◌, ◌<◌, ◌≤◌, List, length, get_or, ℤ, pos, negsuc, ◌+ℤ◌, ◌-ℤ◌, ◌*ℤ◌, ◌≤ℤ◌, sym, ap, ◌∙◌, subst, ap₂, arith, w32, SFits, to_z, of_z, ltb-false, ltb-true}
 use borrow.Author.Differences.{ints}
 use lib.Ieee.{Float, lt, nan}
 use Rattle.double.specs.Double.{exponent}
 use Rattle.double.proofs.Shape.{passes}
 use Rattle.schema.specs.Bounds.{entries_below}
-use Rattle.schema.specs.Tables.{table, doubles}
+use Rattle.schema.specs.Tables.{table}
 use Rattle.schema.proofs.Search.{Narrowed, numerator, narrowed_all, narrowed_up, narrowed_down, narrowed_count, tested, normal_own, bounds_length, few_entries, octave_range}
 use Rattle.schema.proofs.indices.table_index.Goals as goal
 
