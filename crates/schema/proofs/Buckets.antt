@@ -1,19 +1,18 @@
 -- The index of a number is that of its bucket: its units lie above the bound before, and are at most the bound.
-use Rattle.std.proofs.Common.{◌≡◌, ℕ, zero, suc, ◌+◌, ◌-◌, ◌*◌, ◌/◌, ◌^◌, ◌<◌, ◌≤◌, Bool, true, false, cond, not, ◌&&◌, T, ◌⊎◌, length, ℤ, pos, negsuc, ◌+ℤ◌, ◌-ℤ◌, ◌*ℤ◌, ◌≤ℤ◌, ◌<ℤ◌, sym, refl, ap, ◌∙◌, subst, ap₂, inl, inr, ⊎_elim, suc-le-suc, zero-le, le_trans, le_of_eq, le_refl, lt_of_lt_of_le, lt_of_le_of_lt, le_of_lt, lt_irrefl, mul-le-mul_right, arith, leb→le, pow_pos}
+use Rattle.std.proofs.Common.{◌≡◌, ℕ, zero, suc, ◌-◌, ◌*◌, ◌^◌, ◌<◌, ◌≤◌, T, ℤ, pos, negsuc, ◌+ℤ◌, ◌-ℤ◌, ◌*ℤ◌, ◌≤ℤ◌, sym, ap, ◌∙◌, subst, ⊎_elim, zero-le, le_trans, le_of_eq, le_refl, lt_of_lt_of_le, lt_of_le_of_lt, le_of_lt, mul-le-mul_right, arith, pow_pos}
 use borrow.Author.Differences.{ints}
-use lib.Signed.{le_z}
-use lib.Ieee.{Float, nan, inf, fin, binary64, fits}
+use lib.Ieee.{Float, binary64, fits}
 use Rattle.std.proofs.lemmas.Bool.{cases_lt}
-use Rattle.index.specs.Index.{quotient, remainder, halved, Halves}
+use Rattle.index.specs.Index.{quotient, remainder}
 use Rattle.double.specs.Double.{units, fraction, exponent, finite_nonzero}
-use Rattle.double.proofs.Fraction.{Normal, SplitNormal, split_normal}
+use Rattle.double.proofs.Fraction.{split_normal}
 use Rattle.schema.specs.Tables.{table, entry, TableRules}
-use Rattle.schema.specs.Bounds.{is_schema, scaled, cut, entries_below, table_index, finite_index, index, max_double, lowest_index, highest_index}
+use Rattle.schema.specs.Bounds.{is_schema, scaled, cut, entries_below, table_index, finite_index}
 use Rattle.schema.proofs.Rules.{table_rules}
 use Rattle.schema.proofs.Divide.{divided, remainder_lt, next_multiple}
 use Rattle.schema.proofs.Scaled.{Exactly, exactly_within, exactly_above, exactly_shift, exactly_unshift}
 use Rattle.schema.proofs.Counting.{Parted, parted_entries}
-use Rattle.schema.proofs.Cuts.{cut_at, cut_octave, cut_wide, cut_mono, fine_rises, schema_fine, climb, nested}
+use Rattle.schema.proofs.Cuts.{cut_at, cut_octave, cut_wide, fine_rises, schema_fine, climb}
 
 -- u units lie in bucket i
 pub record Lies (s : ℤ) (u : ℕ) (i : ℤ) : Type 0 where

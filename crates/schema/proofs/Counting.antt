@@ -1,7 +1,7 @@
 -- How many entries of a table are below a fraction: the place where the fraction's bucket is.
-use Rattle.std.proofs.Common.{◌≡◌, ℕ, zero, suc, ◌+◌, ◌-◌, ◌*◌, ◌^◌, ◌<◌, ◌≤◌, Bool, true, false, cond, ◌&&◌, T, eqb, ltb, List, [], ◌∷◌, length, get_or, sym, refl, ap, ◌∙◌, subst, ap₂, ⊎_elim, suc-le-suc, zero-le, le_trans, le_of_eq, le_refl, lt_of_lt_of_le, le_of_suc-le-suc, not-suc-le-zero, lt_of_le_of_lt, le_of_lt, add-one, one-add, arith, eqb→eq, ltb→lt, ltb-false, ltb-true, le-ltb, lt-ltb}
+use Rattle.std.proofs.Common.{◌≡◌, ℕ, zero, suc, ◌+◌, ◌^◌, ◌<◌, ◌≤◌, Bool, cond, ◌&&◌, T, eqb, ltb, List, [], ◌∷◌, length, get_or, sym, refl, ◌∙◌, subst, ap₂, ⊎_elim, suc-le-suc, zero-le, le_trans, le_of_eq, le_refl, lt_of_lt_of_le, le_of_suc-le-suc, not-suc-le-zero, lt_of_le_of_lt, le_of_lt, add-one, one-add, ltb→lt, le-ltb, lt-ltb}
 use Rattle.std.proofs.lemmas.Bool.{cases_lt}
-use lib.Ieee.{Float, lt}
+use lib.Ieee.{Float}
 use Rattle.double.proofs.Fraction.{Normal, normal_bits, normal_lt}
 use Rattle.schema.specs.Tables.{table, entry, entry_double, rising_from, proper, TableRules}
 use Rattle.schema.specs.Bounds.{entries_below}

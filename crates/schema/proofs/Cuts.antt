@@ -1,13 +1,13 @@
 -- Bounds in whole units: where one stands, that they rise, and that a coarser schema has every other one.
-use Rattle.std.proofs.Common.{◌≡◌, ℕ, zero, suc, ◌+◌, ◌-◌, ◌*◌, ◌/◌, ◌^◌, ◌<◌, ◌≤◌, Bool, true, false, cond, ◌&&◌, T, ◌⊎◌, ℤ, pos, negsuc, ◌+ℤ◌, ◌-ℤ◌, ◌*ℤ◌, nat_abs, ◌≤ℤ◌, ◌<ℤ◌, sym, refl, ap, ◌∙◌, subst, ap₂, inl, inr, ⊎_elim, zero-le, le_trans, le_of_eq, le_refl, lt_of_lt_of_le, lt_of_le_of_lt, le_of_lt, mul-one, add-one, arith, leb→le, pow_pos, pow-add}
+use Rattle.std.proofs.Common.{◌≡◌, ℕ, zero, suc, ◌+◌, ◌*◌, ◌^◌, ◌<◌, ◌≤◌, T, ℤ, pos, negsuc, ◌+ℤ◌, ◌-ℤ◌, ◌*ℤ◌, nat_abs, ◌≤ℤ◌, sym, refl, ap, ◌∙◌, subst, ap₂, ⊎_elim, zero-le, le_trans, le_of_eq, lt_of_lt_of_le, le_of_lt, add-one, arith, leb→le, pow_pos}
 use native.Mathlib.Nat.{pow-succ'}
 use borrow.Author.Differences.{ints}
 use lib.Signed.{le_z}
 use Rattle.std.proofs.lemmas.Bool.{cases_lt}
 use Rattle.index.specs.Index.{quotient, remainder}
-use Rattle.schema.specs.Tables.{table, entry, TableRules}
-use Rattle.schema.specs.Bounds.{is_schema, base, power, scaled, cut}
-use Rattle.schema.proofs.Rules.{and_left, and_right, table_rules}
+use Rattle.schema.specs.Tables.{entry, TableRules}
+use Rattle.schema.specs.Bounds.{is_schema, scaled, cut}
+use Rattle.schema.proofs.Rules.{and_right, table_rules}
 use Rattle.schema.proofs.Divide.{remainder_lt, quotient_of, remainder_of, divided, next_multiple, twice_multiple, twice_product}
 use Rattle.schema.proofs.Scaled.{scaled_shift, scaled_mono}
 

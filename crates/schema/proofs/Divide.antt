@@ -1,6 +1,6 @@
 -- Whole numbers divided by d, rounded down: i is d times its quotient, plus its remainder, and only so.
-use Rattle.std.proofs.Common.{◌≡◌, ℕ, zero, suc, ◌+◌, ◌-◌, ◌*◌, ◌/◌, ◌%◌, ◌^◌, ◌<◌, ◌≤◌, ◌⊎◌, ℤ, pos, negsuc, ◌+ℤ◌, ◌-ℤ◌, ◌*ℤ◌, neg_ℤ, ◌≤ℤ◌, ◌<ℤ◌, sym, refl, ap, ◌∙◌, subst, ap₂, inl, inr, mod-lt, suc-mul, add-mul, one-mul, div-add-mod', zero-mul, mul_left_comm, arith}
-use borrow.Author.Differences.{ints, product_is}
+use Rattle.std.proofs.Common.{◌≡◌, ℕ, zero, suc, ◌+◌, ◌-◌, ◌*◌, ◌/◌, ◌<◌, ℤ, pos, negsuc, ◌+ℤ◌, ◌*ℤ◌, neg_ℤ, sym, refl, ap, ◌∙◌, mod-lt, suc-mul, add-mul, one-mul, div-add-mod', zero-mul, mul_left_comm, arith}
+use borrow.Author.Differences.{ints}
 use lib.Arith.{digits_div, digits_mod}
 use Rattle.index.specs.Index.{quotient, remainder}
 

@@ -1,10 +1,9 @@
 -- What is computed at each of the thirteen schemas: the ends of the range of indices.
-use Rattle.std.proofs.Common.{◌≡◌, ℕ, zero, suc, ◌+◌, ◌^◌, ◌<◌, ◌≤◌, Bool, true, false, ◌&&◌, T, eqb, ltb, leb, ℤ, pos, negsuc, ◌+ℤ◌, ◌-ℤ◌, ◌≤ℤ◌, sym, refl, ap, ◌∙◌, subst, inl, inr, le_refl, arith, eqb→eq, ltb→lt, leb→le}
+use Rattle.std.proofs.Common.{◌≡◌, ℕ, zero, suc, ◌^◌, ◌<◌, ◌≤◌, Bool, ◌&&◌, T, eqb, ltb, leb, ℤ, pos, negsuc, ◌+ℤ◌, ◌-ℤ◌, ◌≤ℤ◌, sym, subst, inl, inr, arith, eqb→eq, ltb→lt, leb→le}
 use native.Mathlib.Nat.{le-suc_iff}
 use borrow.Author.Differences.{ints}
-use lib.Count.{count_trailing_zeros}
 use lib.Signed.{le_z}
-use lib.Ieee.{Float, fin, size, lt, of_bits}
+use lib.Ieee.{size, lt, of_bits}
 use Rattle.index.specs.Index.{in_index_range}
 use Rattle.schema.specs.Tables.{tables}
 use Rattle.schema.specs.Bounds.{is_schema, cut, finite_index, max_double, min_double, lowest_index, highest_index}

@@ -1,12 +1,12 @@
 -- The first schema whose growth is at most a factor is the smallest such.
-use Rattle.std.proofs.Common.{◌≡◌, ℕ, zero, suc, ◌+◌, ◌-◌, ◌<◌, ◌≤◌, Bool, true, false, cond, not, T, ◌⊎◌, ℤ, pos, negsuc, ◌+ℤ◌, ◌-ℤ◌, ◌≤ℤ◌, ◌<ℤ◌, sym, refl, ap, ◌∙◌, subst, inl, inr, arith}
+use Rattle.std.proofs.Common.{◌≡◌, ℕ, zero, suc, Bool, true, false, cond, not, T, ◌⊎◌, ℤ, pos, negsuc, ◌+ℤ◌, ◌≤ℤ◌, ◌<ℤ◌, sym, refl, ap, ◌∙◌, subst, inl, inr, arith}
 use borrow.Author.Differences.{ints}
 use lib.Signed.{le_z}
 use lib.Ieee.{Float, le}
 use Rattle.std.proofs.lemmas.Int.{by_lt_z}
 use Rattle.schema.specs.Bounds.{is_schema}
 use Rattle.schema.specs.Factor.{growth, first_from, schema_for, Smallest}
-use Rattle.schema.proofs.Rules.{and_left, and_right}
+use Rattle.schema.proofs.Rules.{and_left}
 use Rattle.schema.proofs.Laws.{both}
 
 pub fitting_here : (n : ℕ) (s : ℤ) (f : Float) → le (growth s) f ≡ true → first_from (suc n) s f ≡ s

@@ -1,16 +1,16 @@
 -- Every number other than zero lies in the bucket of its index, and in no other; a coarser schema halves the index; the range of indices.
-use Rattle.std.proofs.Common.{◌≡◌, ℕ, zero, suc, ◌+◌, ◌-◌, ◌*◌, ◌/◌, ◌^◌, ◌<◌, ◌≤◌, Bool, true, false, cond, not, ◌&&◌, T, ltb, leb, ◌⊎◌, ℤ, pos, negsuc, ◌+ℤ◌, ◌-ℤ◌, ◌≤ℤ◌, ◌<ℤ◌, sym, refl, ap, ◌∙◌, subst, ap₂, inl, inr, ⊎_elim, le_trans, le_of_eq, lt_of_lt_of_le, not-suc-le-zero, lt_of_le_of_lt, le_of_lt, lt_irrefl, le-div_iff_mul-le, arith, le→leb, ltb→lt, lt→ltb, leb→le, ltb-true, lt-ltb, le-leb, leb-true}
+use Rattle.std.proofs.Common.{◌≡◌, ℕ, zero, suc, ◌+◌, ◌*◌, ◌^◌, ◌<◌, ◌≤◌, Bool, true, false, ◌&&◌, T, ltb, leb, ℤ, pos, negsuc, ◌+ℤ◌, ◌-ℤ◌, ◌≤ℤ◌, ◌<ℤ◌, sym, ap, subst, ap₂, le_trans, le_of_eq, lt_of_lt_of_le, not-suc-le-zero, lt_of_le_of_lt, lt_irrefl, le-div_iff_mul-le, arith, le→leb, ltb→lt, lt→ltb, leb→le}
 use borrow.Author.Differences.{ints}
-use lib.Signed.{le_z, lt_z}
-use lib.Ieee.{Float, nan, inf, fin, binary64, fits, is_nan, lt, le, up, down}
+use lib.Signed.{le_z}
+use lib.Ieee.{Float, nan, inf, fin, binary64, fits, is_nan, le, up, down}
 use lib.Ieee.Fits.{down_pos}
 use Rattle.std.proofs.lemmas.Int.{by_lt_z}
-use Rattle.index.specs.Index.{halved, Halves, in_index_range}
+use Rattle.index.specs.Index.{halved, in_index_range}
 use Rattle.index.proofs.Halving.{halves}
-use Rattle.double.specs.Double.{Number, units, magnitude, largest, finite_nonzero}
+use Rattle.double.specs.Double.{Number, units, largest}
 use Rattle.double.proofs.Order.{units_under}
 use Rattle.double.proofs.Largest.{units_infinite, largest_number, largest_magnitude, largest_within, le_largest, lt_largest}
-use Rattle.schema.specs.Bounds.{is_schema, base, power, scaled, cut, bound, within_exact, Largest, index, finite_index, nonzero, in_bucket, OnlyBucket, lowest_index, highest_index, max_double}
+use Rattle.schema.specs.Bounds.{is_schema, base, power, cut, bound, Largest, index, nonzero, in_bucket, OnlyBucket, lowest_index, highest_index}
 use Rattle.schema.specs.Laws.{Ranged}
 use Rattle.schema.proofs.Rules.{and_left, and_right}
 use Rattle.schema.proofs.Cuts.{cut_mono, rises, nested}

@@ -1,14 +1,13 @@
 -- The doubles that the program makes from a mantissa m of 53 digits and a power of two x: each is the largest of at most m × 2^x units.
-use Rattle.std.proofs.Common.{◌≡◌, ℕ, zero, suc, ◌+◌, ◌-◌, ◌*◌, ◌/◌, ◌^◌, ◌<◌, ◌≤◌, Bool, false, not, T, ℤ, pos, negsuc, neg_ℤ, nat_abs, ◌≤ℤ◌, ◌<ℤ◌, sym, refl, ap, ◌∙◌, subst, le_trans, le_of_eq, lt_of_lt_of_le, lt_of_le_of_lt, le_of_lt, mul-le-mul_right, div-lt_iff_lt-mul, mul-le-mul, le_antisymm, mul-le-mul_left, mul-lt-mul_of_pos_right, one-mul, zero-add, zero-mul, mul-one, div-le_self, div-one, arith, lit≤, pow_pos, pow_mono, pow-add}
+use Rattle.std.proofs.Common.{◌≡◌, ℕ, suc, ◌+◌, ◌-◌, ◌*◌, ◌/◌, ◌^◌, ◌<◌, ◌≤◌, false, ℤ, pos, negsuc, nat_abs, ◌≤ℤ◌, sym, refl, ap, ◌∙◌, le_trans, le_of_eq, lt_of_lt_of_le, lt_of_le_of_lt, div-lt_iff_lt-mul, mul-le-mul, le_antisymm, mul-le-mul_left, mul-lt-mul_of_pos_right, one-mul, mul-one, div-le_self, div-one, arith, lit≤, pow_pos, pow_mono, pow-add}
 use borrow.Author.Differences.{ints}
 use lib.Pow.{pow-lt}
-use lib.Ieee.{Float, inf, binary64, size, of_bits, nan_bits}
+use lib.Ieee.{inf, binary64, size, of_bits}
 use lib.Ieee.Digits.{size-le}
 use Rattle.double.specs.Double.{largest, pattern}
 use Rattle.double.proofs.Largest.{largest_infinite, largest_small}
 use Rattle.double.proofs.Fraction.{pattern_full}
 use Rattle.schema.specs.Bounds.{scaled}
-use Rattle.schema.proofs.Scaled.{scaled_mono}
 
 clashes : (k : ℕ) {P : Type 0} → pos 0 ≤ℤ negsuc k → P
 clashes k h = absurd (never k h)

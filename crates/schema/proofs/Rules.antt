@@ -1,6 +1,6 @@
 -- The tables' rules at each entry, from the one test of all nine tables.
-use Rattle.std.proofs.Common.{◌≡◌, ℕ, zero, suc, ◌+◌, ◌-◌, ◌*◌, ◌^◌, ◌<◌, ◌≤◌, Bool, true, false, ◌&&◌, T, eqb, ltb, List, [], ◌∷◌, length, get_or, sym, refl, ap, ◌∙◌, subst, le_trans, lt_trans, le_of_eq, lt_of_lt_of_le, le_of_suc-le-suc, not-suc-le-zero, add-zero, le_of_lt, lt_irrefl, zero-add, add-one, arith, eqb→eq, ltb→lt, pow_pos}
-use Rattle.schema.specs.Tables.{tables, table, entry, rising_from, proper, thins, thins_next, lawful_from, TableRules}
+use Rattle.std.proofs.Common.{◌≡◌, ℕ, zero, suc, ◌+◌, ◌-◌, ◌*◌, ◌^◌, ◌<◌, ◌≤◌, Bool, true, false, ◌&&◌, T, eqb, ltb, List, [], ◌∷◌, length, get_or, sym, refl, ap, ◌∙◌, subst, lt_trans, le_of_eq, lt_of_lt_of_le, le_of_suc-le-suc, not-suc-le-zero, add-zero, zero-add, add-one, arith, eqb→eq, ltb→lt}
+use Rattle.schema.specs.Tables.{tables, table, rising_from, proper, thins, thins_next, lawful_from, TableRules}
 
 pub and_left : (a b : Bool) → T (a && b) → T a
 and_left true b h = tt

@@ -1,14 +1,13 @@
 -- The search of a table: what is known of the entries outside the part that is left.
-use Rattle.std.proofs.Common.{◌≡◌, ℕ, zero, suc, ◌+◌, ◌-◌, ◌*◌, ◌/◌, ◌^◌, ◌<◌, ◌≤◌, Bool, true, false, T, ltb, List, [], ◌∷◌, length, get_or, ℤ, pos, negsuc, ◌*ℤ◌, ◌≤ℤ◌, sym, refl, ap, ◌∙◌, subst, ap₂, inl, inr, ⊎_elim, suc-le-suc, le_trans, le_of_eq, le_refl, lt_of_lt_of_le, le_of_suc-le-suc, not-suc-le-zero, lt_of_le_of_lt, le_of_lt, mul-le-mul, suc-add, zero-add, mul-div_cancel, add-one, arith, pow_pos, pow_mono, ltb-false, ltb-true}
+use Rattle.std.proofs.Common.{◌≡◌, ℕ, zero, suc, ◌+◌, ◌-◌, ◌/◌, ◌^◌, ◌<◌, ◌≤◌, T, ltb, List, [], ◌∷◌, length, get_or, ℤ, pos, negsuc, ◌*ℤ◌, ◌≤ℤ◌, sym, refl, ap, ◌∙◌, subst, le_trans, le_of_eq, le_refl, lt_of_lt_of_le, le_of_suc-le-suc, not-suc-le-zero, lt_of_le_of_lt, le_of_lt, mul-le-mul, suc-add, zero-add, mul-div_cancel, add-one, arith, pow_pos, pow_mono}
 use lib.Ieee.{Float, lt, fits, binary64}
-use Rattle.std.proofs.lemmas.Bool.{cases_lt}
 use borrow.Author.Differences.{ints}
 use Rattle.double.specs.Double.{units, fraction, finite_nonzero}
-use Rattle.double.proofs.Fraction.{Normal, normal_bits, normal_lt, SplitNormal, split_normal}
+use Rattle.double.proofs.Fraction.{Normal, normal_bits, normal_lt, split_normal}
 use Rattle.schema.specs.Tables.{table, entry, entry_double, doubles, TableRules}
 use Rattle.schema.specs.Bounds.{entries_below}
 use Rattle.schema.proofs.Rules.{table_rules}
-use Rattle.schema.proofs.Counting.{Parted, parted_count, entries_count, full_table}
+use Rattle.schema.proofs.Counting.{parted_count, entries_count, full_table}
 
 pub length_doubles : (ns : List ℕ) → length (doubles ns) ≡ length ns
 length_doubles [] = refl

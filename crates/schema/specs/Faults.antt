@@ -1,5 +1,5 @@
 -- Why a schema is not made: the number of the refusal, and its place.
-use Rattle.std.specs.Prelude.{ℕ, List, ℤ, pos}
+use Rattle.std.specs.Prelude.{ℕ, ℤ, pos}
 use Rattle.schema.specs.declared.faults.SchemaFault.{SchemaFault}
 use Rattle.schema.specs.declared.faults.SchemaFault.TheVariants.{OutOfRange, BadFactor}
 

@@ -1,5 +1,5 @@
 -- What is true of bounds and indices at every schema.
-use Rattle.std.specs.Prelude.{◌≡◌, ℕ, false, T, ℤ, pos, ◌+ℤ◌, ◌-ℤ◌, ◌≤ℤ◌, Float}
+use Rattle.std.specs.Prelude.{◌≡◌, false, T, ℤ, pos, ◌+ℤ◌, ◌-ℤ◌, ◌≤ℤ◌, Float}
 use Rattle.std.specs.Float.{inf}
 use Rattle.index.specs.Index.{halved, in_index_range}
 use Rattle.double.specs.Double.{Number}

@@ -1,6 +1,6 @@
 -- The nine tables of bucket bounds between 1/2 and 1. The table of schema a, from 0 to 8, has 2^a entries; a number below is an entry times 2^53.
 -- They are the numbers that Prometheus's client libraries share. Entry j stands for 2^(j / 2^a - 1), and where that real number is not a double, the table decides.
-use Rattle.std.specs.Prelude.{◌≡◌, ℕ, zero, suc, ◌+◌, ◌*◌, ◌^◌, ◌<◌, ◌≤◌, Bool, true, false, ◌&&◌, List, [], ◌∷◌, length, ◌==◌, from_bits, nat_lt, slice_index, slice_index_or, Float}
+use Rattle.std.specs.Prelude.{◌≡◌, ℕ, suc, ◌+◌, ◌*◌, ◌^◌, ◌<◌, Bool, true, false, ◌&&◌, List, [], ◌∷◌, length, ◌==◌, from_bits, nat_lt, slice_index, slice_index_or, Float}
 use Rattle.std.specs.Float.{binary64}
 
 unfoldable pub tables : List (List ℕ)

@@ -1,6 +1,4 @@
-use Rattle.std.proofs.Common.{◌≡◌, ℕ, ◌+◌, ◌-◌, ◌*◌, ◌^◌, length, get_or, sym, arith}
-use lib.Ieee.{nan}
-use Rattle.schema.specs.Tables.{entry}
+use Rattle.std.proofs.Common.{arith}
 use Rattle.schema.proofs.Search.{bounds_length}
 use Rattle.schema.proofs.Reading.{read_entry}
 use Rattle.schema.proofs.bounds.mantissa.Goals as goal

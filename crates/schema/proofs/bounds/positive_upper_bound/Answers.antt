@@ -1,4 +1,4 @@
-use Rattle.std.proofs.Common.{◌≡◌, ℕ, T, ℤ, pos, ◌+ℤ◌, sym, ap, ◌∙◌, subst, ap₂, w8, w32, SFits, rules}
+use Rattle.std.proofs.Common.{◌≡◌, T, ℤ, pos, ◌+ℤ◌, sym, ◌∙◌, subst, ap₂, w8, w32, SFits, rules}
 use Rattle.schema.proofs.Reading.{fine, wide}
 use Rattle.std.proofs.lemmas.Int.{to_z-of_z}
 use lib.Ieee.{Float, le}

@@ -1,7 +1,7 @@
-use Rattle.std.proofs.Common.{◌≡◌, ℕ, ◌+◌, ◌*◌, ◌^◌, ◌<◌, ◌≤◌, ℤ, pos, negsuc, ◌+ℤ◌, ◌*ℤ◌, ◌≤ℤ◌, sym, ap, ◌∙◌, subst, ap₂, arith, lit<, lit≤, pow_mono, w32, w64, SFits, to_z, of_z, rules}
+use Rattle.std.proofs.Common.{◌≡◌, ℕ, ◌^◌, ◌≤◌, ℤ, pos, negsuc, ◌+ℤ◌, ◌*ℤ◌, ◌≤ℤ◌, sym, ap, ◌∙◌, subst, ap₂, arith, lit<, lit≤, pow_mono, w32, w64, SFits, to_z, of_z, rules}
 use borrow.Author.Differences.{ints}
 use Rattle.double.specs.Double.{largest}
-use Rattle.schema.specs.Bounds.{scaled, cut}
+use Rattle.schema.specs.Bounds.{scaled}
 use Rattle.schema.proofs.Reading.{cut_powers, times_range}
 use Rattle.schema.proofs.bounds.power_bound.Goals as goal
 

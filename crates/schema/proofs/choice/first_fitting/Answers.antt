@@ -1,9 +1,9 @@
-use Rattle.std.proofs.Common.{◌≡◌, ℕ, suc, ◌+◌, ◌-◌, ◌<◌, ◌≤◌, Bool, true, false, T, ℤ, pos, negsuc, ◌+ℤ◌, ◌-ℤ◌, ◌≤ℤ◌, sym, refl, ap, ◌∙◌, subst, ap₂, arith, w8, to_z, of_z}
+use Rattle.std.proofs.Common.{◌≡◌, ℕ, suc, ◌+◌, ◌-◌, ◌<◌, Bool, true, false, T, ℤ, pos, negsuc, ◌+ℤ◌, ◌-ℤ◌, ◌≤ℤ◌, sym, ap, ◌∙◌, ap₂, arith, w8, to_z, of_z}
 use borrow.Author.Differences.{ints}
 use lib.Signed.{le_z}
 use lib.Ieee.{Float, le}
 use Rattle.schema.specs.Bounds.{is_schema}
-use Rattle.schema.specs.Factor.{growth, first_from, schema_for}
+use Rattle.schema.specs.Factor.{growth, first_from}
 use Rattle.schema.proofs.Laws.{both}
 use Rattle.schema.proofs.Fitting.{fitting_here, fitting_later, begins}
 use Rattle.schema.proofs.choice.first_fitting.Goals as goal

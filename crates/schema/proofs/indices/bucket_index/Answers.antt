@@ -1,9 +1,8 @@
-use Rattle.std.proofs.Common.{◌≡◌, ℕ, zero, suc, Bool, true, false, cond, not, T, ℤ, pos, negsuc, ◌+ℤ◌, ◌≤ℤ◌, Some, None, Option, sym, refl, ap, ◌∙◌, subst, arith, w32, SFits, to_z, of_z, rules}
+use Rattle.std.proofs.Common.{◌≡◌, zero, suc, Bool, true, false, cond, not, T, ℤ, pos, negsuc, ◌+ℤ◌, ◌≤ℤ◌, Some, None, Option, sym, refl, ap, ◌∙◌, subst, arith, w32, to_z, of_z}
 use borrow.Author.Differences.{ints}
 use borrow.Author.Tests.{clash}
 use lib.Ieee.{Float, nan, inf, fin, binary64, fits, is_nan, eq, of_bits}
 use Rattle.std.specs.Float.{float_is_infinite, float_is_finite}
-use Rattle.std.proofs.lemmas.Int.{to_z-of_z}
 use Rattle.double.specs.Double.{finite_nonzero}
 use Rattle.double.proofs.Shape.{passes}
 use Rattle.double.proofs.Fraction.{zero_tested, nonzero_tested}

@@ -1,10 +1,10 @@
-use Rattle.std.proofs.Common.{◌≡◌, ℕ, ◌+◌, ◌-◌, ◌*◌, ◌/◌, ◌^◌, ◌<◌, ◌≤◌, List, length, get_or, ℤ, pos, negsuc, ◌+ℤ◌, ◌-ℤ◌, ◌*ℤ◌, ◌≤ℤ◌, sym, refl, ap, ◌∙◌, subst, ap₂, arith, w32, SFits, to_z, of_z, rules, ltb-false, ltb-true}
+use Rattle.std.proofs.Common.{◌≡◌, ℕ, suc, ◌+◌, ◌-◌, ◌/◌, ◌^◌, ◌<◌, ◌≤◌, List, length, get_or, ℤ, pos, negsuc, ◌+ℤ◌, ◌-ℤ◌, ◌*ℤ◌, ◌≤ℤ◌, sym, ap, ◌∙◌, subst, ap₂, mul-le-mul, arith, w32, SFits, to_z, of_z, ltb-false, ltb-true}
 use borrow.Author.Differences.{ints}
 use lib.Ieee.{Float, lt, nan}
 use Rattle.double.specs.Double.{exponent}
 use Rattle.double.proofs.Shape.{passes}
 use Rattle.schema.specs.Bounds.{entries_below}
-use Rattle.schema.specs.Tables.{table, doubles}
+use Rattle.schema.specs.Tables.{table}
 use Rattle.schema.proofs.Search.{Narrowed, numerator, narrowed_all, narrowed_up, narrowed_down, narrowed_count, tested, normal_own, bounds_length, few_entries, octave_range}
 use Rattle.schema.proofs.indices.table_index.Goals as goal
 
@@ -68,11 +68,31 @@ octave_at c =
     octave_of c.frexp-fraction.result.1 (length c.entries-bounds.result.now) c.loop-low.low c.frexp-fraction.ensures.range.0 c.frexp-fraction.ensures.range.1 (entries_few c)
     (omega (arith, c.loop-low.invariant.ordered, c.loop-low.invariant.inside, bounds_length c.args.a c.entries-bounds.result.now c.requires.known c.entries-bounds.ensures))
 
-fits_product : (e p : ℤ) (d low : ℕ) → Octave e p d low → SFits w32 p
-fits_product e p d low o = omega (arith, ints)
+-- whatever small number the octave is, its product with the count fits, and so does the sum with a place
+product_range : (z y : ℤ) (d : ℕ) → negsuc 9999 ≤ℤ z → z ≤ℤ pos 9999 → d ≤ 256 → y ≡ pos d → (negsuc 2559999 ≤ℤ (z *ℤ y)) × ((z *ℤ y) ≤ℤ pos 2560000)
+product_range (pos q) y d l h g e = rw e (omega (arith, ints, mul-le-mul (fewer q h) g), omega (arith, ints, mul-le-mul (fewer q h) g))
+  where
+    fewer : (q : ℕ) → pos q ≤ℤ pos 9999 → q ≤ 10000
+    fewer q h = omega (arith, ints)
+product_range (negsuc q) y d l h g e = rw e (omega (arith, ints, mul-le-mul (fewer q l) g), omega (arith, ints, mul-le-mul (fewer q l) g))
+  where
+    fewer : (q : ℕ) → negsuc 9999 ≤ℤ negsuc q → suc q ≤ 10000
+    fewer q h = omega (arith, ints)
 
-fits_sum : (e p : ℤ) (d low : ℕ) → Octave e p d low → SFits w32 (to_z w32 (of_z w32 p) +ℤ to_z w32 low)
-fits_sum e p d low o = omega (arith, ints)
+count_is : (d : ℕ) → d ≤ 256 → to_z w32 d ≡ pos d
+count_is d h = omega (arith, ints)
+
+fits_product : (z y : ℤ) (d : ℕ) → negsuc 9999 ≤ℤ z → z ≤ℤ pos 9999 → d ≤ 256 → y ≡ pos d → SFits w32 (z *ℤ y)
+fits_product z y d l h g e = let r = product_range z y d l h g e in omega (arith, ints, r.0, r.1)
+
+fits_sum : (z y : ℤ) (d low : ℕ) → negsuc 9999 ≤ℤ z → z ≤ℤ pos 9999 → d ≤ 256 → y ≡ pos d → low ≤ d → SFits w32 (to_z w32 (of_z w32 (z *ℤ y)) +ℤ to_z w32 low)
+fits_sum z y d low l h g e k = sum (z *ℤ y) r.0 r.1
+  where
+    r : (negsuc 2559999 ≤ℤ (z *ℤ y)) × ((z *ℤ y) ≤ℤ pos 2560000)
+    r = product_range z y d l h g e
+
+    sum : (p : ℤ) → negsuc 2559999 ≤ℤ p → p ≤ℤ pos 2560000 → SFits w32 (to_z w32 (of_z w32 p) +ℤ to_z w32 low)
+    sum p a b = omega (arith, ints)
 
 sum_is : (e p : ℤ) (d low : ℕ) → Octave e p d low → to_z w32 (of_z w32 (to_z w32 (of_z w32 p) +ℤ to_z w32 low)) ≡ p +ℤ pos low
 sum_is e p d low o = omega (arith, ints)
@@ -84,10 +104,19 @@ pub overflow_cast-result : goal.overflow_cast-result
 overflow_cast-result c = let f = entries_few c in omega (arith, ints)
 
 pub overflow_mul-result : goal.overflow_mul-result
-overflow_mul-result c = fits_product _ _ _ _ (octave_at c)
+overflow_mul-result c =
+    let few = entries_few c in
+    let least : negsuc 1073 ≤ℤ c.frexp-fraction.result.1 = c.frexp-fraction.ensures.range.0 in
+    let most : c.frexp-fraction.result.1 ≤ℤ pos 1024 = c.frexp-fraction.ensures.range.1 in
+    fits_product _ _ _ (omega (arith, ints)) (omega (arith, ints)) few (count_is _ few)
 
 pub overflow_add-result : goal.overflow_add-result
-overflow_add-result c = fits_sum _ _ _ _ (octave_at c)
+overflow_add-result c =
+    let few = entries_few c in
+    let least : negsuc 1073 ≤ℤ c.frexp-fraction.result.1 = c.frexp-fraction.ensures.range.0 in
+    let most : c.frexp-fraction.result.1 ≤ℤ pos 1024 = c.frexp-fraction.ensures.range.1 in
+    fits_sum _ _ _ c.loop-low.low (omega (arith, ints)) (omega (arith, ints)) few (count_is _ few)
+    (omega (arith, c.loop-low.invariant.ordered, c.loop-low.invariant.inside, bounds_length c.args.a c.entries-bounds.result.now c.requires.known c.entries-bounds.ensures))
 
 pub returns : goal.returns
 returns c =

@@ -1,5 +1,5 @@
 -- The nine tables of the program are those of the definition, one after the other.
-use Rattle.std.proofs.Common.{◌≡◌, ℕ, zero, suc, ◌≤◌, ◌⊎◌, refl, inl, inr, arith}
+use Rattle.std.proofs.Common.{◌≡◌, ℕ, suc, ◌≤◌, ◌⊎◌, inl, inr, arith}
 use native.Mathlib.Nat.{le-suc_iff}
 use Rattle.schema.specs.Tables.{tables}
 use Rattle.schema.proofs.tables.entries.Goals as goal

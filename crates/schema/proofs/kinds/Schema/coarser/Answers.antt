@@ -1,4 +1,4 @@
-use Rattle.std.proofs.Common.{◌≡◌, true, T, ℤ, pos, negsuc, ◌-ℤ◌, ◌≤ℤ◌, sym, ap, subst, arith, w8, to_z, of_z}
+use Rattle.std.proofs.Common.{◌≡◌, true, T, ℤ, pos, negsuc, ◌-ℤ◌, ◌≤ℤ◌, sym, subst, arith, w8, to_z, of_z}
 use borrow.Author.Differences.{ints}
 use lib.Signed.{le_z, lt_z}
 use Rattle.schema.specs.Bounds.{is_schema}

@@ -1,7 +1,7 @@
-use Rattle.std.proofs.Common.{◌≡◌, Bool, true, false, not, T, ℤ, sym, refl, ap, ◌∙◌, subst}
+use Rattle.std.proofs.Common.{◌≡◌, Bool, not, T, sym, refl, ap, ◌∙◌, subst}
 use lib.Ieee.{Float, lt, binary64, of_bits}
 use Rattle.double.specs.Double.{one}
-use Rattle.schema.specs.Factor.{schema_for, is_factor, Smallest}
+use Rattle.schema.specs.Factor.{is_factor, Smallest}
 use Rattle.schema.proofs.Fitting.{schema_smallest}
 use Rattle.schema.proofs.kinds.Schema.from_factor.Goals as goal
 

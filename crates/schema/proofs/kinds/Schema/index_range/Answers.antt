@@ -1,9 +1,9 @@
-use Rattle.std.proofs.Common.{◌≡◌, ℤ, pos, negsuc, ◌+ℤ◌, ◌≤ℤ◌, sym, refl, ap, ◌∙◌, arith, w32, to_z, of_z}
+use Rattle.std.proofs.Common.{◌≡◌, ℤ, pos, negsuc, ◌+ℤ◌, ◌≤ℤ◌, refl, ap, ◌∙◌, arith, w32, to_z, of_z}
 use borrow.Author.Differences.{ints}
 use lib.Ieee.{binary64, of_bits}
 use Rattle.double.proofs.Fraction.{no_nan}
 use Rattle.schema.specs.Bounds.{finite_index, min_double, max_double}
-use Rattle.schema.proofs.Ends.{Ends, schema_ends}
+use Rattle.schema.proofs.Ends.{schema_ends}
 use Rattle.schema.proofs.kinds.Schema.index_range.Goals as goal
 
 smallest : of_bits binary64 1 ≡ min_double
