@@ -20,9 +20,9 @@ pub widened-first-requires : goal.widened-first-requires
 widened-first-requires c =
     let run = c.args.self.now in
     let i = to_z w32 (of_z w32 c.args.index) in
-    let free = unrefused (pairs_of run) (room_of run) i (sym c.in-default.ensures) in
-    let e : index_of c.position-of-at.result ≡ i = omega (arith, ints) in
-    (run.width, (run.reach, (c.position-of-at.ensures.bound, near_room c.position-of-at.result i (window_of run) e free.2)))
+    let free = unrefused (pairs_of run) (room_of run) i (sym c.in_default.ensures) in
+    let e : index_of c.position_of-at.result ≡ i = omega (arith, ints) in
+    (run.width, (run.reach, (c.position_of-at.ensures.bound, near_room c.position_of-at.result i (window_of run) e free.2)))
 
 pub overflow-add-self : goal.overflow-add-self
 overflow-add-self c =
@@ -70,11 +70,11 @@ returns c =
     let run = c.args.self.now in
     let i = c.args.index in
     let long : length run.counters ≡ 512 = search rules in
-    let at = c.position-of-at.result in
+    let at = c.position_of-at.result in
     let x : to_z w32 (of_z w32 i) ≡ i = omega (arith, ints) in
     let e : index_of at ≡ i = omega (arith, ints) in
     record {
-      allowed = ap (add_refusal (pairs_of run) (room_of run)) (sym x) ∙ sym c.in-default.ensures;
+      allowed = ap (add_refusal (pairs_of run) (room_of run)) (sym x) ∙ sym c.in_default.ensures;
       raises =
           adds run.counters run.first run.span run.size run.total at c.widened-first.result.0 c.widened-first.result.1 (window_of run) c.widened-first.ensures long
           ∙ ap (λ j. raised j (pairs_of run)) e;

@@ -27,10 +27,10 @@ pub returns : goal.returns
 returns c =
     let run = c.args.self.now in
     let long : length run.counters ≡ 512 = search rules in
-    let x : to_z w32 (of_z w32 c.index-at.result) ≡ index_of run.first = omega (arith, ints) in
+    let x : to_z w32 (of_z w32 c.index_at.result) ≡ index_of run.first = omega (arith, ints) in
     record {
       answer =
-          takes_lowest run.counters run.first run.span run.size run.total c.used-from-next.result (window_of run) (omega arith) c.used-from-next.ensures
-          (to_z w32 (of_z w32 c.index-at.result)) x;
-      rest = takes_rest run.counters run.first run.span run.size run.total c.used-from-next.result (window_of run) (omega arith) c.used-from-next.ensures long;
+          takes_lowest run.counters run.first run.span run.size run.total c.used_from-next.result (window_of run) (omega arith) c.used_from-next.ensures
+          (to_z w32 (of_z w32 c.index_at.result)) x;
+      rest = takes_rest run.counters run.first run.span run.size run.total c.used_from-next.result (window_of run) (omega arith) c.used_from-next.ensures long;
     }
