@@ -27,17 +27,29 @@ pub record Window (counters : List ℕ) (first span size sum : ℕ) : Type 0 whe
 -- the same, as a run is asked for them
 abbrev pub Kept : List ℕ → ℕ → ℕ → ℕ → ℕ → Type 0
 Kept counters first span size sum =
-    (span ≤ 512)
-    × ((first + span ≤ positions)
-    × ((0 < span → 0 < counter counters first)
-    × ((0 < span → 0 < counter counters (first + span - 1))
-    × (((k : ℕ) → first + span ≤ k → k < first + 512 → counter counters k ≡ 0)
-    × ((size ≡ length (listing (counter counters) first span))
-    × ((sum ≡ total (listing (counter counters) first span))
-    × ((sum < 2 ^ 64) × Unit {0})))))))
+    record {
+      width : span ≤ 512;
+      reach : first + span ≤ positions;
+      low : 0 < span → 0 < counter counters first;
+      high : 0 < span → 0 < counter counters (first + span - 1);
+      unused : (k : ℕ) → first + span ≤ k → k < first + 512 → counter counters k ≡ 0;
+      sized : size ≡ length (listing (counter counters) first span);
+      summed : sum ≡ total (listing (counter counters) first span);
+      bounded : sum < 2 ^ 64;
+    }
 
 pub kept : {counters : List ℕ} {first span size sum : ℕ} → Window counters first span size sum → Kept counters first span size sum
-kept w = (w.width, (w.reach, (w.low, (w.high, (w.unused, (w.sized, (w.summed, (w.bounded, tt))))))))
+kept w =
+    record {
+      width = w.width;
+      reach = w.reach;
+      low = w.low;
+      high = w.high;
+      unused = w.unused;
+      sized = w.sized;
+      summed = w.summed;
+      bounded = w.bounded;
+    }
 
 pub window_of : (run : Run) → Window run.counters run.first run.span run.size run.total
 window_of run =

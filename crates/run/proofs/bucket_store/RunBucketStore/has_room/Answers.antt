@@ -1,4 +1,4 @@
-use Rattle.std.proofs.Common.{◌≡◌, ◌+◌, ◌-◌, ◌<◌, ℤ, pos, ◌+ℤ◌, ◌≤ℤ◌, ◌<ℤ◌, sym, ap, ◌∙◌, arith, w32, to_z, of_z}
+use Rattle.std.proofs.Common.{◌≡◌, ◌+◌, ◌-◌, ◌<◌, pos, ◌+ℤ◌, ◌≤ℤ◌, ◌<ℤ◌, sym, ap, ◌∙◌, arith, w32, to_z, of_z}
 use lib.Signed.{le_z, lt_z}
 use Rattle.std.specs.Int.{int_max, int_min}
 use Rattle.std.proofs.lemmas.Int.{ints}
@@ -19,8 +19,8 @@ returns-then-highest-index c =
     let up : le_z c.args.index (lo +ℤ pos 511) ≡ lt_z (int_max hi c.args.index) (int_min lo c.args.index +ℤ pos 512) =
     room_up_to lo hi c.args.index (omega (arith, ints)) (omega (arith, ints)) near in
     let x : to_z w32 (of_z w32 c.args.index) ≡ c.args.index = omega (arith, ints) in
-    let y : to_z w32 (of_z w32 (to_z w32 (of_z w32 c.index-at-lowest.result) +ℤ pos 511)) ≡ lo +ℤ pos 511 = omega (arith, ints) in
-    ap (λ z. le_z z (to_z w32 (of_z w32 (to_z w32 (of_z w32 c.index-at-lowest.result) +ℤ pos 511)))) x
+    let y : to_z w32 (of_z w32 (to_z w32 (of_z w32 c.index_at-lowest.result) +ℤ pos 511)) ≡ lo +ℤ pos 511 = omega (arith, ints) in
+    ap (λ z. le_z z (to_z w32 (of_z w32 (to_z w32 (of_z w32 c.index_at-lowest.result) +ℤ pos 511)))) x
     ∙ ap (le_z c.args.index) y
     ∙ up
     ∙ sym (window_room c.args.index (window_of run) some)

@@ -19,9 +19,9 @@ pub returns-then-left-eq0 : goal.returns-then-left-eq0
 returns-then-left-eq0 c =
     let run = c.args.self.now in
     let at = c.loop-at.at in
-    let i : to_z w32 (of_z w32 c.index-at.result) ≡ index_of at = omega (arith, ints) in
+    let i : to_z w32 (of_z w32 c.index_at.result) ≡ index_of at = omega (arith, ints) in
     walk_ends (counter run.counters) at (run.first + run.span) c.loop-at.left c.loop-at-test.true
-    (to_z w32 (of_z w32 c.index-at.result)) (pair_at (pairs_of run) c.args.position)
+    (to_z w32 (of_z w32 c.index_at.result)) (pair_at (pairs_of run) c.args.position)
     i c.if-count-gt0.true c.if-left-eq0.true c.loop-at.invariant
 
 pub loop-at-preserved : goal.loop-at-preserved
