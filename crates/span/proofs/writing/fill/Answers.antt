@@ -1,6 +1,6 @@
-use Rattle.std.proofs.Common.{◌≡◌, ℕ, ◌+◌, ◌-◌, ◌⊎◌, length, set, ℤ, pos, ◌+ℤ◌, ◌-ℤ◌, refl, ap, ◌∙◌, inl, inr, arith, w32, Fits, to_z, of_z, rules}
+use Rattle.std.proofs.Common.{◌≡◌, ℕ, ◌+◌, ◌⊎◌, length, set, ℤ, pos, ◌+ℤ◌, ◌-ℤ◌, refl, ap, ◌∙◌, inl, inr, arith, w32, Fits, to_z, of_z, rules}
 use Rattle.std.proofs.lemmas.Int.{ints}
-use Rattle.span.specs.Spans.{ahead, runs, differences, deltas}
+use Rattle.span.specs.Spans.{ahead, runs, differences}
 use Rattle.span.specs.Writing.{laid}
 use Rattle.store.specs.Pairs.{Pairs}
 use Rattle.span.proofs.Climbing.{Place, after_from}

@@ -1,4 +1,4 @@
-use Rattle.std.proofs.Common.{◌≡◌, ◌+◌, ◌^◌, ◌<◌, length, ℤ, pos, ◌+ℤ◌, Some, sym, refl, ap, ◌∙◌, inl, inr, arith, w32, to_z, of_z, rules}
+use Rattle.std.proofs.Common.{◌≡◌, ◌^◌, ◌<◌, length, pos, ◌+ℤ◌, Some, sym, refl, ap, ◌∙◌, inl, inr, arith, w32, to_z, of_z, rules}
 use Rattle.std.proofs.lemmas.Int.{ints}
 use Rattle.span.specs.Spans.{ahead, filled, runs}
 use Rattle.span.proofs.Steps.{runs_few, length_differences}

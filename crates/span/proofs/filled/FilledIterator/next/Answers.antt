@@ -1,4 +1,4 @@
-use Rattle.std.proofs.Common.{◌≡◌, ◌+◌, ℤ, pos, ◌+ℤ◌, sym, inl, inr, arith, rules}
+use Rattle.std.proofs.Common.{◌≡◌, pos, ◌+ℤ◌, sym, inl, inr, arith, rules}
 use Rattle.std.proofs.lemmas.Int.{ints}
 use Rattle.span.proofs.Filling.{pair_ranges, pair_within, few_pairs, ahead_none, gap_short, gap_none, gap_long, lists_zero, lists_pair, shorter}
 use Rattle.span.proofs.filled.FilledIterator.next.Goals as goal
