@@ -1,5 +1,6 @@
 // Reading pairs one after another.
 ghost use Rattle.std.specs.Prelude.{◌≡◌, ◌<◌, length};
+ghost use Rattle.std.specs.Iterator.{item_count};
 ghost use Rattle.span.specs.Readers.{reader_buckets, reader_pairs, ReaderSound, Gives};
 
 use crate::reader::BucketReader;
@@ -50,9 +51,7 @@ impl Iterator for BucketReader<'_> {
 
     ghost next_gives = { Gives reader_pairs };
 
-    ghost ends = { ReaderSound };
-
-    ghost remaining = { λ s. length (reader_pairs s) };
+    ghost remaining = { item_count reader_pairs };
 
     fn next(&mut self) -> Option<(i32, u64)> {
         while let Some(bucket) = self.next_bucket() {

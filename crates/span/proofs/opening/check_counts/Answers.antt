@@ -11,13 +11,13 @@ use Rattle.span.proofs.opening.check_counts.Goals as goal
 sum_is : (before d : ℤ) → pos 0 ≤ℤ before → before ≤ℤ pos 9223372036854775807 → SFits w64 d → to_z w128 (of_z w128 (before +ℤ to_z w128 (of_z w128 (to_z w64 (of_z w64 d))))) ≡ before +ℤ d
 sum_is before d a b f = omega (arith, ints)
 
-pub returns-then-not-is-count : goal.returns-then-not-is-count
-returns-then-not-is-count c =
+pub returns-then-not-is_count : goal.returns-then-not-is_count
+returns-then-not-is_count c =
     let ds = c.args.deltas.now in
     let n : ℕ = c.loop-number.number in
     let f : SFits w64 (get_or c.args.deltas.now c.loop-number.number (pos 0)) = search rules in
     let e = sum_is _ (get_or ds n (pos 0)) c.loop-number.invariant.1 c.loop-number.invariant.2 f in
-    let t = ap countable (sym e) ∙ sym c.is-count.ensures ∙ c.if-not-is-count.true in
+    let t = ap countable (sym e) ∙ sym c.is_count.ensures ∙ c.if-not-is_count.true in
     ap (λ z. Some (15, z)) (to_z_pos w64 n (omega arith))
     ∙ sym (sym c.loop-number.invariant.0 ∙ counts_step ds n _ (pos 0) c.loop-number-test.true ∙ cond-false _ _ _ t)
 
@@ -27,7 +27,7 @@ loop-number-preserved c =
     let n : ℕ = c.loop-number.number in
     let f : SFits w64 (get_or c.args.deltas.now c.loop-number.number (pos 0)) = search rules in
     let e = sum_is _ (get_or ds n (pos 0)) c.loop-number.invariant.1 c.loop-number.invariant.2 f in
-    let t = sym c.is-count.ensures ∙ c.if-not-is-count.false in (
+    let t = sym c.is_count.ensures ∙ c.if-not-is_count.false in (
       ap (λ z. counts_refusal (n + 1) z (drop (n + 1) ds)) e
           ∙ sym (cond-true _ _ _ (ap countable (sym e) ∙ t))
           ∙ sym (counts_step ds n _ (pos 0) c.loop-number-test.true)

@@ -1,4 +1,4 @@
-use Rattle.std.proofs.Common.{◌≡◌, ◌+◌, ◌^◌, ◌<◌, length, ℤ, pos, ◌+ℤ◌, Some, sym, refl, ap, ◌∙◌, inl, inr, arith, w32, to_z, of_z, rules}
+use Rattle.std.proofs.Common.{◌≡◌, ◌^◌, ◌<◌, length, pos, ◌+ℤ◌, Some, sym, refl, ap, ◌∙◌, inl, inr, arith, w32, to_z, of_z, rules}
 use Rattle.std.proofs.lemmas.Int.{ints}
 use Rattle.span.specs.Spans.{ahead, filled, runs}
 use Rattle.span.proofs.Steps.{runs_few, length_differences}
@@ -9,18 +9,18 @@ use Rattle.span.proofs.writing.measure.Goals.{then-spans-eq0, else-spans-eq0+els
 pub loop-index-init : goal.loop-index-init
 loop-index-init g c =
     seen_none (g.S.BucketStore.pairs c.args.store.now) _
-    (ap (λ f. ahead (g.S.BucketStore.pairs f.store.now) f.position f.next) c.into-iter-index-iterator.ensures.into-iter-gives ∙ c.new-index-items.ensures)
+    (ap (λ f. ahead (g.S.BucketStore.pairs f.store.now) f.position f.next) c.into_iter-index-iterator.ensures.into_iter_gives ∙ c.new-index-items.ensures)
 
-pub returns-then-count-gt-LARGEST-COUNT : goal.returns-then-count-gt-LARGEST-COUNT
-returns-then-count-gt-LARGEST-COUNT g c =
+pub returns-then-count-gt-LARGEST_COUNT : goal.returns-then-count-gt-LARGEST_COUNT
+returns-then-count-gt-LARGEST_COUNT g c =
     let met = g.met.S.BucketStore in
     let e = c.in-Some.ensures.steps in
     let p = seen_place c.loop-index.invariant e (met.means c.args.store.now).rises (met.in_range c.args.store.now) in
     let b : c.in-Some.index ≡ to_z w32 (of_z w32 c.in-Some.index) = let l = p.index_low in let h = p.index_high in omega (arith, ints) in
     too_large c.loop-index.invariant e (omega arith) ∙ ap (λ i. Some (10, i)) b
 
-pub overflow-add-spans : goal.overflow-add-spans
-overflow-add-spans g c =
+pub overflow_add-spans : goal.overflow_add-spans
+overflow_add-spans g c =
     let met = g.met.S.BucketStore in
     let p = seen_place c.loop-index.invariant c.in-Some.ensures.steps (met.means c.args.store.now).rises (met.in_range c.args.store.now) in
     let f = p.few in
@@ -28,16 +28,16 @@ overflow-add-spans g c =
     let k = runs_few c.loop-index.yielded in
     search rules
 
-pub overflow-add-deltas : goal.overflow-add-deltas
-overflow-add-deltas g c =
+pub overflow_add-deltas : goal.overflow_add-deltas
+overflow_add-deltas g c =
     let met = g.met.S.BucketStore in
     let p = seen_place c.loop-index.invariant c.in-Some.ensures.steps (met.means c.args.store.now).rises (met.in_range c.args.store.now) in
     let f = p.few in
     let n = c.loop-index.invariant.of_deltas in
     search rules
 
-pub overflow-add-next : goal.overflow-add-next
-overflow-add-next g c =
+pub overflow_add-next : goal.overflow_add-next
+overflow_add-next g c =
     let met = g.met.S.BucketStore in
     let p = seen_place c.loop-index.invariant c.in-Some.ensures.steps (met.means c.args.store.now).rises (met.in_range c.args.store.now) in
     let l = p.index_low in

@@ -5,14 +5,14 @@ use Rattle.span.proofs.Filling.{pair_ranges, ahead_start, ahead_empty}
 use Rattle.span.proofs.filled.Filled.new.Goals as goal
 use Rattle.span.proofs.filled.Filled.new.Goals.{in-Some, in-None}
 
-pub invariant-of-result : goal.invariant-of-result
-invariant-of-result g c =
+pub invariant_of-result : goal.invariant_of-result
+invariant_of-result g c =
     elim c.match-pair.branch [
       | in-Some w ↦
           let r = pair_ranges (g.S.BucketStore.pairs c.args.store.now) 0 (w.in-Some.index, w.in-Some.field-0-1) (g.met.S.BucketStore.in_range c.args.store.now) (sym w.in-Some.ensures) in
           let e = w.next-is in
-          (omega (arith, ints), (omega (arith, ints), tt))
-      | in-None w ↦ let e = w.next-is in let f = c.match-pair.next-is in (omega (arith, ints), (omega (arith, ints), tt))
+          record { low = omega (arith, ints); high = omega (arith, ints) }
+      | in-None w ↦ let e = w.next-is in let f = c.match-pair.next-is in record { low = omega (arith, ints); high = omega (arith, ints) }
     ]
 
 pub returns : goal.returns

@@ -1,73 +1,73 @@
-use Rattle.std.proofs.Common.{◌≡◌, ◌+◌, ℤ, pos, ◌+ℤ◌, sym, inl, inr, arith, rules}
+use Rattle.std.proofs.Common.{◌≡◌, pos, ◌+ℤ◌, sym, inl, inr, arith, rules}
 use Rattle.std.proofs.lemmas.Int.{ints}
 use Rattle.span.proofs.Filling.{pair_ranges, pair_within, few_pairs, ahead_none, gap_short, gap_none, gap_long, lists_zero, lists_pair, shorter}
 use Rattle.span.proofs.filled.FilledIterator.next.Goals as goal
 use Rattle.std.proofs.iter.Next.{firm}
 
-pub returns-in-err-index : goal.returns-in-err-index
-returns-in-err-index g c =
+pub returns-in_err-index : goal.returns-in_err-index
+returns-in_err-index g c =
     let s = c.args.self.now in
-    let e = ahead_none (g.S.BucketStore.pairs s.store.now) s.position s.next (sym c.in-err-index.ensures) in
-    rw c.from-residual.ensures (record { steps = e; goes = firm (tt) (λ h. search rules) })
+    let e = ahead_none (g.S.BucketStore.pairs s.store.now) s.position s.next (sym c.in_err-index.ensures) in
+    rw c.from_residual.ensures (record { steps = e; goes = firm (tt) (λ h. search rules) })
 
-pub overflow-sub-gap : goal.overflow-sub-gap
-overflow-sub-gap g c =
+pub overflow_sub-gap : goal.overflow_sub-gap
+overflow_sub-gap g c =
     let s = c.args.self.now in
-    let r = pair_ranges (g.S.BucketStore.pairs s.store.now) s.position (c.in-ok-index.index, c.in-ok-index.count) (g.met.S.BucketStore.in_range s.store.now) (sym c.in-ok-index.ensures) in
+    let r = pair_ranges (g.S.BucketStore.pairs s.store.now) s.position (c.in_ok-index.index, c.in_ok-index.count) (g.met.S.BucketStore.in_range s.store.now) (sym c.in_ok-index.ensures) in
     let l = s.low in
     let h = s.high in
     omega (arith, ints)
 
-pub invariant-of-self : goal.invariant-of-self
-invariant-of-self g c =
+pub invariant_of-self : goal.invariant_of-self
+invariant_of-self g c =
     let s = c.args.self.now in
-    let r = pair_ranges (g.S.BucketStore.pairs s.store.now) s.position (c.in-ok-index.index, c.in-ok-index.count) (g.met.S.BucketStore.in_range s.store.now) (sym c.in-ok-index.ensures) in
+    let r = pair_ranges (g.S.BucketStore.pairs s.store.now) s.position (c.in_ok-index.index, c.in_ok-index.count) (g.met.S.BucketStore.in_range s.store.now) (sym c.in_ok-index.ensures) in
     let l = s.low in
     let h = s.high in
-    elim (gap_short c.in-ok-index.index s.next r s.low s.high c.if-gap-gt0.true c.if-gap-le-SHORT-GAP.true)
-    [ inl e ↦ (omega (arith, ints), (omega (arith, ints), tt)) | inr e ↦ (omega (arith, ints), (omega (arith, ints), tt)) ]
+    elim (gap_short c.in_ok-index.index s.next r s.low s.high c.if-gap-gt0.true c.if-gap-le-SHORT_GAP.true)
+    [ inl e ↦ record { low = omega (arith, ints); high = omega (arith, ints) } | inr e ↦ record { low = omega (arith, ints); high = omega (arith, ints) } ]
 
-pub returns-then-gap-le-SHORT-GAP : goal.returns-then-gap-le-SHORT-GAP
-returns-then-gap-le-SHORT-GAP g c =
+pub returns-then-gap-le-SHORT_GAP : goal.returns-then-gap-le-SHORT_GAP
+returns-then-gap-le-SHORT_GAP g c =
     let s = c.args.self.now in
     let ps = g.S.BucketStore.pairs s.store.now in
-    let at = sym c.in-ok-index.ensures in
-    let r = pair_ranges ps s.position (c.in-ok-index.index, c.in-ok-index.count) (g.met.S.BucketStore.in_range s.store.now) at in
-    let short = gap_short c.in-ok-index.index s.next r s.low s.high c.if-gap-gt0.true c.if-gap-le-SHORT-GAP.true in
+    let at = sym c.in_ok-index.ensures in
+    let r = pair_ranges ps s.position (c.in_ok-index.index, c.in_ok-index.count) (g.met.S.BucketStore.in_range s.store.now) at in
+    let short = gap_short c.in_ok-index.index s.next r s.low s.high c.if-gap-gt0.true c.if-gap-le-SHORT_GAP.true in
     let e = lists_zero ps s.position s.next s.low s.high _ _ r at short in
     record { steps = e; goes = firm ((tt, tt, shorter _ _ _ e)) (λ h. search rules) }
 
-pub overflow-add-self-2 : goal.overflow-add-self-2
-overflow-add-self-2 g c =
+pub overflow_add-self-2 : goal.overflow_add-self-2
+overflow_add-self-2 g c =
     let s = c.args.self.now in
     let ps = g.S.BucketStore.pairs s.store.now in
     let n = few_pairs ps (g.met.S.BucketStore.means s.store.now) in
-    let w = pair_within ps _ _ (sym c.in-ok-index.ensures) in
+    let w = pair_within ps _ _ (sym c.in_ok-index.ensures) in
     search rules
 
-pub overflow-add-self-3 : goal.overflow-add-self-3
-overflow-add-self-3 g c =
+pub overflow_add-self-3 : goal.overflow_add-self-3
+overflow_add-self-3 g c =
     let s = c.args.self.now in
-    let r = pair_ranges (g.S.BucketStore.pairs s.store.now) s.position (c.in-ok-index.index, c.in-ok-index.count) (g.met.S.BucketStore.in_range s.store.now) (sym c.in-ok-index.ensures) in
+    let r = pair_ranges (g.S.BucketStore.pairs s.store.now) s.position (c.in_ok-index.index, c.in_ok-index.count) (g.met.S.BucketStore.in_range s.store.now) (sym c.in_ok-index.ensures) in
     omega (arith, ints)
 
-pub invariant-of-self-2 : goal.invariant-of-self-2
-invariant-of-self-2 g c =
+pub invariant_of-self-2 : goal.invariant_of-self-2
+invariant_of-self-2 g c =
     let s = c.args.self.now in
-    let r = pair_ranges (g.S.BucketStore.pairs s.store.now) s.position (c.in-ok-index.index, c.in-ok-index.count) (g.met.S.BucketStore.in_range s.store.now) (sym c.in-ok-index.ensures) in
-    (omega (arith, ints), (omega (arith, ints), tt))
+    let r = pair_ranges (g.S.BucketStore.pairs s.store.now) s.position (c.in_ok-index.index, c.in_ok-index.count) (g.met.S.BucketStore.in_range s.store.now) (sym c.in_ok-index.ensures) in
+    record { low = omega (arith, ints); high = omega (arith, ints) }
 
 pub returns : goal.returns
 returns g c =
     let s = c.args.self.now in
     let ps = g.S.BucketStore.pairs s.store.now in
-    let at = sym c.in-ok-index.ensures in
-    let r = pair_ranges ps s.position (c.in-ok-index.index, c.in-ok-index.count) (g.met.S.BucketStore.in_range s.store.now) at in
-    let i = c.in-ok-index.index in
+    let at = sym c.in_ok-index.ensures in
+    let r = pair_ranges ps s.position (c.in_ok-index.index, c.in_ok-index.count) (g.met.S.BucketStore.in_range s.store.now) at in
+    let i = c.in_ok-index.index in
     let apart : (i ≡ s.next +ℤ pos 1 → ⊥) × (i ≡ s.next +ℤ pos 2 → ⊥) =
     elim c.else-gap-gt0.branch [
-      | goal.else-gap-gt0-via-then-gap-gt0+else-gap-le-SHORT-GAP w ↦ gap_long i s.next r s.low s.high w.if-gap-le-SHORT-GAP.false
+      | goal.else-gap-gt0-via-then-gap-gt0+else-gap-le-SHORT_GAP w ↦ gap_long i s.next r s.low s.high w.if-gap-le-SHORT_GAP.false
       | goal.else-gap-gt0-via-else-gap-gt0 w ↦ gap_none i s.next r s.low s.high w.if-gap-gt0.false
     ] in
-    let e = lists_pair ps s.position s.next s.low s.high i c.in-ok-index.count r at apart in
+    let e = lists_pair ps s.position s.next s.low s.high i c.in_ok-index.count r at apart in
     record { steps = e; goes = firm ((tt, tt, shorter _ _ _ e)) (λ h. search rules) }

@@ -5,17 +5,17 @@ use Rattle.span.specs.Reading.{lengths}
 use Rattle.span.proofs.Unread.{begun, begun_fits, begun_buckets}
 use Rattle.span.proofs.reader.BucketReader.begin_span.Goals as goal
 
-pub returns-in-default : goal.returns-in-default
-returns-in-default c =
+pub returns-in_default : goal.returns-in_default
+returns-in_default c =
     let r = c.loop-self.self in
-    let n = ap lengths (nil_from_length r.spans.now c.in-default.ensures.cases) in
+    let n = ap lengths (nil_from_length r.spans.now c.in_default.ensures.cases) in
     let w = c.loop-self.invariant.0.whole in
     let t = c.loop-self-test.true in
     let d = ap length c.loop-self.invariant.2 in
     record { sound = c.loop-self.invariant.0; some = omega (arith, c.requires.more); same = c.loop-self.invariant.1 }
 
-pub overflow-add-self : goal.overflow-add-self
-overflow-add-self c =
+pub overflow_add-self : goal.overflow_add-self
+overflow_add-self c =
     let f : SFits w32 c.in-Some.span.now.0 = search rules in
     let i = c.loop-self.invariant.0 in
     let l = i.low in
