@@ -1,12 +1,12 @@
 -- What filing a reading does to a plug.
-use Rattle.std.specs.Prelude.{◌≡◌, ℕ, ◌+◌, ◌-◌, ◌^◌, Bool, cond, not, T, [], ℤ, ◌≤ℤ◌, Some, None, Ok, Err, Option, Result, is_nan, Float}
+use Rattle.std.specs.Prelude.{◌≡◌, ℕ, ◌+◌, ◌-◌, ◌^◌, cond, not, T, [], ℤ, ◌≤ℤ◌, Some, None, Ok, Err, Option, Result, is_nan, Float}
 use Rattle.std.specs.Float.Ieee.{lt}
 use Rattle.double.specs.Double.{zero_double}
 use Rattle.schema.specs.Bounds.{bound, index_of, nonzero}
 use Rattle.schema.specs.declared.kinds.Schema.{Schema}
 use Rattle.store.specs.Faults.{refusal}
 use Rattle.store.specs.Pairs.{Pairs, raised, listed}
-use Rattle.store.specs.Stores.{Room, add_refusal}
+use Rattle.store.specs.Stores.{add_refusal}
 use Rattle.store.specs.declared.faults.StoreFault.{StoreFault}
 use Rattle.store.specs.declared.faults.StoreFault.TheVariants.{Full}
 use Rattle.hub.specs.declared.chosen.StoreKind.{StoreKind}

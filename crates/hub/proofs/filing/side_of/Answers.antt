@@ -1,7 +1,5 @@
-use Rattle.std.proofs.Common.{◌≡◌, Bool, true, false, cond, sym, refl, ap, ◌∙◌}
+use Rattle.std.proofs.Common.{◌≡◌, Bool, true, false, cond, sym, ap}
 use lib.Ieee.{Float, lt, binary64, of_bits}
-use Rattle.double.specs.Double.{zero_double}
-use Rattle.hub.specs.declared.filing.Side.{Side}
 use Rattle.hub.specs.declared.filing.Side.TheVariants.{Positive, Negative}
 use Rattle.hub.specs.Filing.{side_of}
 use Rattle.hub.proofs.filing.side_of.Goals as goal

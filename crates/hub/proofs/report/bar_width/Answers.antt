@@ -8,8 +8,8 @@ computed count most a b m h em ea eb =
     below_most count most _ h
     (ap (λ k. (k * b + (m - 1)) / m) ea ∙ ap (λ k. (count * k + (m - 1)) / m) eb ∙ ap (λ k. (count * 40 + (k - 1)) / k) em)
 
-pub overflow-cast-result : goal.overflow-cast-result
-overflow-cast-result c =
+pub overflow_cast-result : goal.overflow_cast-result
+overflow_cast-result c =
     let w = computed c.args.count c.args.most _ _ _ (omega (arith, c.if-count-most.false)) c.from-most.ensures c.from.ensures c.from-2.ensures in
     omega (arith, w.fits)
 

@@ -4,7 +4,7 @@ use Rattle.std.proofs.lemmas.List.{take_all, take_more}
 use Rattle.store.specs.Pairs.{Pairs, pair_at}
 use Rattle.store.proofs.Parts.{pair_at_in}
 use Rattle.hub.proofs.written.pairs_of.Goals as goal
-use Rattle.hub.proofs.written.pairs_of.Goals.{in-Some+in-ok-push, in-default}
+use Rattle.hub.proofs.written.pairs_of.Goals.{in-Some+in_ok-push, in_default}
 
 -- the pair at position k comes after the k pairs before it
 one_further : (ps qs : Pairs) (k : ℕ) (p : ℤ × ℕ) → k < length ps → qs ≡ take k ps → Some p ≡ pair_at ps k → qs ++ p ∷ [] ≡ take (k + 1) ps
@@ -21,10 +21,10 @@ loop-position-preserved g c =
     let k = c.loop-position.position in
     let h : k < length ps = omega (arith, c.loop-position-test.true, c.size-position-end.ensures) in
     elim c.match-pair.branch [
-      | in-Some+in-ok-push w ↦
-          ap vec_items w.pairs-is ∙ w.in-ok-push.ensures.items
+      | in-Some+in_ok-push w ↦
+          ap vec_items w.pairs-is ∙ w.in_ok-push.ensures.items
           ∙ one_further ps (vec_items c.loop-position.pairs) k w.in-Some.pair h c.loop-position.invariant w.in-Some.ensures
-      | in-default w ↦ absurd (none_missing ps k h w.in-default.ensures)
+      | in_default w ↦ absurd (none_missing ps k h w.in_default.ensures)
     ]
 
 pub returns : goal.returns

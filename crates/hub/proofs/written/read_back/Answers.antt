@@ -21,10 +21,10 @@ gives_back w ss ds v r es ed o e = record {
   of_pairs = e ∙ o.yields ∙ ap (λ s. read_pairs s ds) es ∙ ap (read_pairs (vec_items w.spans)) ed;
 }
 
-pub returns-in-ok-collect : goal.returns-in-ok-collect
-returns-in-ok-collect c =
-    let ran = c.in-ok-collect.ensures.ran in
+pub returns-in_ok-collect-in-Ok : goal.returns-in_ok-collect-in-Ok
+returns-in_ok-collect-in-Ok c =
+    let ran = c.in_ok-collect-in-Ok.ensures.ran in
     let end = ran.1.2 tt in
-    gives_back c.args.written.now _ _ c.in-ok-collect.field-0 c.in-Ok.reader
-    c.as-slice.ensures.value c.as-slice-2.ensures.value c.in-Ok.ensures
+    gives_back c.args.written.now _ _ c.in_ok-collect-in-Ok.field-0 c.in-Ok.reader
+    c.as_slice.ensures.value c.as_slice-2.ensures.value c.in-Ok.ensures
     (ran.2.0 ∙ all_read ran.0 c.in-Ok.reader ran.1.0 end.0 ran.1.1 end.1)

@@ -1,4 +1,4 @@
-use Rattle.std.proofs.Common.{◌≡◌, ℕ, List, [], ◌++◌, length, drop, vec_items, vec_len, Vec, sym, ap, ◌∙◌, arith}
+use Rattle.std.proofs.Common.{◌≡◌, List, ◌++◌, length, vec_items, vec_len, Vec, sym, ap, ◌∙◌, arith}
 use Rattle.std.proofs.lemmas.List.{with_items_is, drop_all, append-nil}
 use Rattle.std.specs.Vec.{with_items}
 use Rattle.std.specs.declared.alloc.Global.{Global}
@@ -17,10 +17,10 @@ returns-in-Ok-write g c =
     let ps = g.S.BucketStore.pairs c.args.store.now in
     let m = c.in-Ok.ensures in
     let o = c.in-Ok-write.ensures in
-    let s : vec_len c.in-ok-spans.spans ≡ length (spans ps) = c.in-ok-spans.ensures.len ∙ m.lengths.of_spans in
-    let d : vec_len c.in-ok-deltas.deltas ≡ length (deltas ps) = c.in-ok-deltas.ensures.len ∙ m.lengths.of_deltas in
+    let s : vec_len c.in_ok-spans.spans ≡ length (spans ps) = c.in_ok-spans.ensures.len ∙ m.lengths.of_spans in
+    let d : vec_len c.in_ok-deltas.deltas ≡ length (deltas ps) = c.in_ok-deltas.ensures.len ∙ m.lengths.of_deltas in
     record {
       allowed = m.allowed;
-      of_spans = laid_whole c.in-ok-spans.spans (spans ps) c.as-mut-slice.result.now c.write.new.spans o.buffers.of_spans (c.as-mut-slice.ensures.len ∙ s) s;
-      of_deltas = laid_whole c.in-ok-deltas.deltas (deltas ps) c.as-mut-slice-2.result.now c.write.new.deltas o.buffers.of_deltas (c.as-mut-slice-2.ensures.len ∙ d) d;
+      of_spans = laid_whole c.in_ok-spans.spans (spans ps) c.as_mut_slice.result.now c.write.new.spans o.buffers.of_spans (c.as_mut_slice.ensures.len ∙ s) s;
+      of_deltas = laid_whole c.in_ok-deltas.deltas (deltas ps) c.as_mut_slice-2.result.now c.write.new.deltas o.buffers.of_deltas (c.as_mut_slice-2.ensures.len ∙ d) d;
     }
