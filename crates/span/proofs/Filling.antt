@@ -1,6 +1,6 @@
 -- The pairs with short gaps filled, as they are listed one after another.
 use Rattle.std.proofs.Common.{◌≡◌, ℕ, zero, suc, ◌+◌, ◌^◌, ◌<◌, ◌≤◌, true, false, T, ◌⊎◌, [], ◌∷◌, length, drop, ℤ, pos, negsuc, ◌+ℤ◌, ◌-ℤ◌, ◌≤ℤ◌, Some, None, sym, refl, ap, ◌∙◌, inl, inr, arith, w32, to_z, of_z}
-use lib.Signed.{le_z, lt_z, le_z_yes}
+use lib.Signed.{le_z, lt_z, le_z_yes, ◌<ℤ◌}
 use Rattle.std.proofs.lemmas.Int.{ints}
 use Rattle.index.specs.Index.{in_index_range}
 use Rattle.store.specs.Pairs.{Pairs, Means, counted, ranged, total, pair_at}
@@ -103,10 +103,8 @@ module _ (i next : ℤ) (r : Ranges i) (low : negsuc 274943 ≤ℤ next) (high :
       let s' : lt_z (pos 0) (i -ℤ next) ≡ false = ap (lt_z (pos 0)) (sym gap_is) ∙ s in
       (λ e. grind (arith, ints), λ e. grind (arith, ints))
 
-  pub gap_long : le_z (gap i next) (pos 2) ≡ false → (i ≡ next +ℤ pos 1 → ⊥) × (i ≡ next +ℤ pos 2 → ⊥)
-  gap_long s =
-      let s' : le_z (i -ℤ next) (pos 2) ≡ false = ap (λ z. le_z z (pos 2)) (sym gap_is) ∙ s in
-      (λ e. grind (arith, ints), λ e. grind (arith, ints))
+  pub gap_long : pos 2 <ℤ gap i next → (i ≡ next +ℤ pos 1 → ⊥) × (i ≡ next +ℤ pos 2 → ⊥)
+  gap_long s = let s' : pos 2 <ℤ (i -ℤ next) = rw gap_is at s in (λ e. omega (arith, ints), λ e. omega (arith, ints))
 
 -- one index is listed: what is still ahead is shorter
 pub shorter : (xs ys : Pairs) (p : ℤ × ℕ) → xs ≡ p ∷ ys → length ys < length xs

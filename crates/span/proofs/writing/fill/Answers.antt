@@ -1,6 +1,6 @@
 use Rattle.std.proofs.Common.{◌≡◌, ℕ, ◌+◌, ◌⊎◌, length, set, ℤ, pos, ◌+ℤ◌, ◌-ℤ◌, refl, ap, ◌∙◌, inl, inr, arith, w32, Fits, to_z, of_z, rules}
 use Rattle.std.proofs.lemmas.Int.{ints}
-use Rattle.span.specs.Spans.{ahead, runs, differences}
+use Rattle.span.specs.Spans.{Spans, ahead, runs, differences}
 use Rattle.span.specs.Writing.{laid}
 use Rattle.store.specs.Pairs.{Pairs}
 use Rattle.span.proofs.Climbing.{Place, after_from}
@@ -38,8 +38,12 @@ apart i next k f (inr z) = inr (differ i next k f z.1)
 index_is : {ys : Pairs} {q : ℤ × ℕ} → Place ys q → q.0 ≡ to_z w32 (of_z w32 q.0)
 index_is p = let l = p.index_low in let h = p.index_high in omega (arith, ints)
 
-gap_is : {ys : Pairs} {q : ℤ × ℕ} {next : ℤ} → Place ys q → next ≡ after_from (pos 0) ys → to_z w32 (of_z w32 (to_z w32 (of_z w32 q.0) -ℤ next)) ≡ q.0 -ℤ next
-gap_is p n = let l = p.index_low in let h = p.index_high in let k = p.low in let m = p.high in omega (arith, ints)
+gap_is : {ys : Pairs} {q : ℤ × ℕ} {x next : ℤ} → Place ys q → next ≡ after_from (pos 0) ys → x ≡ to_z w32 (of_z w32 (to_z w32 (of_z w32 q.0) -ℤ next)) → x ≡ q.0 -ℤ next
+gap_is p n e = let l = p.index_low in let h = p.index_high in let k = p.low in let m = p.high in omega (arith, ints)
+
+-- a span is started at the offset that the machine writes
+starts : (ss : Spans) (k : ℕ) {ss' : Spans} {x offset : ℤ} → ss' ≡ set ss k (x, 0) → x ≡ offset → ss' ≡ set ss k (offset, 0)
+starts ss k e f = e ∙ ap (λ z. set ss k (z, 0)) f
 
 pub bounds-spans-span_count : goal.bounds-spans-span_count
 bounds-spans-span_count g c =
@@ -74,7 +78,7 @@ bounds-spans-span_count-in-loop-index g c =
       | then-span_count-eq0 w ↦
           inl (
             apart c.in-Some.index _ c.loop-index.auto.next refl w.then-span_count-eq0.either,
-            w.spans-is ∙ ap (λ z. set c.loop-index.spans c.loop-index.span_count (z, 0)) (gap_is p s.of_next),
+            starts c.loop-index.spans c.loop-index.span_count w.spans-is (gap_is p s.of_next (omega (arith, ints))),
             w.span_count-is,
           )
       | else-span_count-eq0+else-index-next w ↦
@@ -98,7 +102,7 @@ offset_bounds-spans-span_count-in-loop-index g c =
       | then-span_count-eq0 w ↦
           inl (
             apart c.in-Some.index _ c.loop-index.auto.next refl w.then-span_count-eq0.either,
-            w.spans-is ∙ ap (λ z. set c.loop-index.spans c.loop-index.span_count (z, 0)) (gap_is p s.of_next),
+            starts c.loop-index.spans c.loop-index.span_count w.spans-is (gap_is p s.of_next (omega (arith, ints))),
             w.span_count-is,
           )
       | else-span_count-eq0+else-index-next w ↦
@@ -146,7 +150,7 @@ append_delta-requires g c =
       | then-span_count-eq0 w ↦
           inl (
             apart c.in-Some.index _ c.loop-index.auto.next refl w.then-span_count-eq0.either,
-            w.spans-is ∙ ap (λ z. set c.loop-index.spans c.loop-index.span_count (z, 0)) (gap_is p s.of_next),
+            starts c.loop-index.spans c.loop-index.span_count w.spans-is (gap_is p s.of_next (omega (arith, ints))),
             w.span_count-is,
           )
       | else-span_count-eq0+else-index-next w ↦
@@ -183,7 +187,7 @@ loop-index-preserved g c =
       | then-span_count-eq0 w ↦
           inl (
             apart c.in-Some.index _ c.loop-index.auto.next refl w.then-span_count-eq0.either,
-            w.spans-is ∙ ap (λ z. set c.loop-index.spans c.loop-index.span_count (z, 0)) (gap_is p s.of_next),
+            starts c.loop-index.spans c.loop-index.span_count w.spans-is (gap_is p s.of_next (omega (arith, ints))),
             w.span_count-is,
           )
       | else-span_count-eq0+else-index-next w ↦

@@ -1,8 +1,9 @@
-use Rattle.std.proofs.Common.{◌≡◌, ◌^◌, ◌<◌, length, pos, ◌+ℤ◌, Some, sym, refl, ap, ◌∙◌, inl, inr, arith, w32, to_z, of_z, rules}
+use Rattle.std.proofs.Common.{◌≡◌, ℕ, ℤ, ◌^◌, ◌<◌, length, pos, ◌+ℤ◌, Some, sym, refl, ap, ◌∙◌, inl, inr, arith, w32, to_z, of_z, rules}
 use Rattle.std.proofs.lemmas.Int.{ints}
+use Rattle.store.specs.Pairs.{Pairs}
 use Rattle.span.specs.Spans.{ahead, filled, runs}
 use Rattle.span.proofs.Steps.{runs_few, length_differences}
-use Rattle.span.proofs.Seen.{seen_none, too_large, seen_place, seen_new, seen_more, seen_all, seen_allowed, differ, agree}
+use Rattle.span.proofs.Seen.{Seen, seen_none, too_large, seen_place, seen_new, seen_more, seen_all, seen_allowed, differ, agree}
 use Rattle.span.proofs.writing.measure.Goals as goal
 use Rattle.span.proofs.writing.measure.Goals.{then-spans-eq0, else-spans-eq0+else-index-next}
 
@@ -44,6 +45,10 @@ overflow_add-next g c =
     let h = p.index_high in
     omega (arith, ints)
 
+-- what was seen, with the lengths that the machine has
+counted : {ps ys rest : Pairs} {next : ℤ} {s d s' d' : ℕ} → Seen ps ys rest next s d → s' ≡ length (runs ys) → d' ≡ length ys → Seen ps ys rest next s' d'
+counted t m n = record { lists = t.lists; counts = t.counts; of_next = t.of_next; of_spans = m; of_deltas = n }
+
 pub loop-index-preserved : goal.loop-index-preserved
 loop-index-preserved g c =
     let met = g.met.S.BucketStore in
@@ -56,16 +61,15 @@ loop-index-preserved g c =
     let b : c.in-Some.index ≡ to_z w32 (of_z w32 c.in-Some.index) = omega (arith, ints) in
     elim c.if-spans-eq0.branch [
       | then-spans-eq0 w ↦
-          rw w.spans-is
-          (seen_new c.loop-index.invariant e _ f k
+          let t = seen_new c.loop-index.invariant e _ f k
           (elim w.then-spans-eq0.either [
             | inl z ↦ inl z
             | inr z ↦ inr (differ c.in-Some.index _ c.loop-index.auto.next refl z.1)
-          ]))
+          ]) in
+          counted t (w.spans-is ∙ t.of_spans) (let m = t.of_deltas in omega arith)
       | else-spans-eq0+else-index-next w ↦
-          rw w.spans-is
-          (seen_more c.loop-index.invariant e _ f k w.if-spans-eq0.false
-          (agree c.in-Some.index _ b refl w.if-index-next.false))
+          let t = seen_more c.loop-index.invariant e _ f k w.if-spans-eq0.false (agree c.in-Some.index _ b refl w.if-index-next.false) in
+          counted t (w.spans-is ∙ t.of_spans) (let m = t.of_deltas in omega arith)
     ]
 
 pub returns : goal.returns

@@ -1,6 +1,8 @@
 use Rattle.std.proofs.Common.{◌≡◌, pos, ◌+ℤ◌, sym, inl, inr, arith, rules}
+use lib.Signed.{◌≤ℤ◌, ◌<ℤ◌}
 use Rattle.std.proofs.lemmas.Int.{ints}
-use Rattle.span.proofs.Filling.{pair_ranges, pair_within, few_pairs, ahead_none, gap_short, gap_none, gap_long, lists_zero, lists_pair, shorter}
+use Rattle.store.proofs.Order.{T_true}
+use Rattle.span.proofs.Filling.{gap, pair_ranges, pair_within, few_pairs, ahead_none, gap_short, gap_none, gap_long, lists_zero, lists_pair, shorter}
 use Rattle.span.proofs.filled.FilledIterator.next.Goals as goal
 use Rattle.std.proofs.iter.Next.{firm}
 
@@ -24,7 +26,8 @@ invariant_of-self g c =
     let r = pair_ranges (g.S.BucketStore.pairs s.store.now) s.position (c.in_ok-index.index, c.in_ok-index.count) (g.met.S.BucketStore.in_range s.store.now) (sym c.in_ok-index.ensures) in
     let l = s.low in
     let h = s.high in
-    elim (gap_short c.in_ok-index.index s.next r s.low s.high c.if-gap-gt0.true c.if-gap-le-SHORT_GAP.true)
+    let t : gap c.in_ok-index.index s.next ≤ℤ pos 2 = omega (arith, ints) in
+    elim (gap_short c.in_ok-index.index s.next r s.low s.high c.if-gap-gt0.true (T_true _ t.le))
     [ inl e ↦ record { low = omega (arith, ints); high = omega (arith, ints) } | inr e ↦ record { low = omega (arith, ints); high = omega (arith, ints) } ]
 
 pub returns-then-gap-le-SHORT_GAP : goal.returns-then-gap-le-SHORT_GAP
@@ -33,7 +36,8 @@ returns-then-gap-le-SHORT_GAP g c =
     let ps = g.S.BucketStore.pairs s.store.now in
     let at = sym c.in_ok-index.ensures in
     let r = pair_ranges ps s.position (c.in_ok-index.index, c.in_ok-index.count) (g.met.S.BucketStore.in_range s.store.now) at in
-    let short = gap_short c.in_ok-index.index s.next r s.low s.high c.if-gap-gt0.true c.if-gap-le-SHORT_GAP.true in
+    let t : gap c.in_ok-index.index s.next ≤ℤ pos 2 = omega (arith, ints) in
+    let short = gap_short c.in_ok-index.index s.next r s.low s.high c.if-gap-gt0.true (T_true _ t.le) in
     let e = lists_zero ps s.position s.next s.low s.high _ _ r at short in
     record { steps = e; goes = firm ((tt, tt, shorter _ _ _ e)) (λ h. search rules) }
 
@@ -66,7 +70,7 @@ returns g c =
     let i = c.in_ok-index.index in
     let apart : (i ≡ s.next +ℤ pos 1 → ⊥) × (i ≡ s.next +ℤ pos 2 → ⊥) =
     elim c.else-gap-gt0.branch [
-      | goal.else-gap-gt0-via-then-gap-gt0+else-gap-le-SHORT_GAP w ↦ gap_long i s.next r s.low s.high w.if-gap-le-SHORT_GAP.false
+      | goal.else-gap-gt0-via-then-gap-gt0+else-gap-le-SHORT_GAP w ↦ gap_long i s.next r s.low s.high (let t : pos 2 <ℤ gap i s.next = omega (arith, ints) in t)
       | goal.else-gap-gt0-via-else-gap-gt0 w ↦ gap_none i s.next r s.low s.high w.if-gap-gt0.false
     ] in
     let e = lists_pair ps s.position s.next s.low s.high i c.in_ok-index.count r at apart in
