@@ -14,7 +14,7 @@ pub const HIGHEST_INDEX: i32 = 262_145;
 pub fn in_index_range(index: i32) -> bool
     ensures { result ≡ in_index_range index }
 {
-    LOWEST_INDEX <= index && index <= HIGHEST_INDEX
+    (LOWEST_INDEX..=HIGHEST_INDEX).contains(&index)
 }
 
 // The index one schema coarser: half of it, rounded up.

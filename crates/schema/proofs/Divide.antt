@@ -1,5 +1,5 @@
 -- Whole numbers divided by d, rounded down: i is d times its quotient, plus its remainder, and only so.
-use Rattle.std.proofs.Common.{◌≡◌, ℕ, zero, suc, ◌+◌, ◌-◌, ◌*◌, ◌/◌, ◌<◌, ℤ, pos, negsuc, ◌+ℤ◌, ◌*ℤ◌, neg_ℤ, sym, refl, ap, ◌∙◌, mod-lt, suc-mul, add-mul, one-mul, div-add-mod', zero-mul, mul_left_comm, arith}
+use Rattle.std.proofs.Common.{◌≡◌, ℕ, zero, suc, ◌+◌, ◌-◌, ◌*◌, ◌/◌, ◌<◌, ◌≤◌, ◌≤ℤ◌, mul-le-mul, ℤ, pos, negsuc, ◌+ℤ◌, ◌*ℤ◌, neg_ℤ, sym, refl, ap, ◌∙◌, mod-lt, suc-mul, add-mul, one-mul, div-add-mod', zero-mul, mul_left_comm, arith}
 use borrow.Author.Differences.{ints}
 use lib.Arith.{digits_div, digits_mod}
 use Rattle.index.specs.Index.{quotient, remainder}
@@ -50,3 +50,14 @@ twice_multiple (negsuc n) d = ap (λ (z : ℕ). neg_ℤ (pos z)) (doubled (suc (
 pub twice_product : (k : ℤ) (d : ℕ) → k *ℤ pos d +ℤ k *ℤ pos d ≡ k *ℤ pos (2 * d)
 twice_product (pos n) d = omega (arith, ints, mul_left_comm n 2 d)
 twice_product (negsuc n) d = omega (arith, ints, mul_left_comm (suc n) 2 d)
+
+-- a product's range, by the ranges of its factors
+pub product_range : (z : ℤ) (d l h m : ℕ) → neg_ℤ (pos l) ≤ℤ z → z ≤ℤ pos h → d ≤ m → (neg_ℤ (pos (l * m)) ≤ℤ (z *ℤ pos d)) × ((z *ℤ pos d) ≤ℤ pos (h * m))
+product_range (pos q) d l h m low high few = (omega (arith, ints), omega (arith, ints, mul-le-mul fewer few))
+  where
+    fewer : q ≤ h
+    fewer = omega (arith, ints)
+product_range (negsuc q) d l h m low high few = (omega (arith, ints, mul-le-mul fewer few), omega (arith, ints))
+  where
+    fewer : suc q ≤ l
+    fewer = omega (arith, ints)

@@ -1,5 +1,5 @@
 -- The first schema whose growth is at most a factor is the smallest such.
-use Rattle.std.proofs.Common.{◌≡◌, ℕ, zero, suc, Bool, true, false, cond, not, T, ◌⊎◌, ℤ, pos, negsuc, ◌+ℤ◌, ◌≤ℤ◌, ◌<ℤ◌, sym, refl, ap, ◌∙◌, subst, inl, inr, arith}
+use Rattle.std.proofs.Common.{◌≡◌, ℕ, zero, suc, Bool, true, false, cond, not, T, ◌⊎◌, ℤ, pos, negsuc, ◌+ℤ◌, ◌-ℤ◌, nat_abs, ◌≤ℤ◌, ◌<ℤ◌, sym, refl, ap, ◌∙◌, subst, inl, inr, arith}
 use borrow.Author.Differences.{ints}
 use lib.Signed.{le_z}
 use lib.Ieee.{Float, le}
@@ -9,11 +9,21 @@ use Rattle.schema.specs.Factor.{growth, first_from, schema_for, Smallest}
 use Rattle.schema.proofs.Rules.{and_left}
 use Rattle.schema.proofs.Laws.{both}
 
-pub fitting_here : (n : ℕ) (s : ℤ) (f : Float) → le (growth s) f ≡ true → first_from (suc n) s f ≡ s
-fitting_here n s f e = ap (λ (b : Bool). cond b s (first_from n (s +ℤ pos 1) f)) e
+-- the schema that is found from s on
+abbrev pub fitting_from : ℤ → Float → ℤ
+fitting_from s f = first_from (nat_abs (pos 8 -ℤ s)) s f
 
-pub fitting_later : (n : ℕ) (s : ℤ) (f : Float) → le (growth s) f ≡ false → first_from (suc n) s f ≡ first_from n (s +ℤ pos 1) f
-fitting_later n s f e = ap (λ (b : Bool). cond b s (first_from n (s +ℤ pos 1) f)) e
+chosen : (n m : ℕ) (s : ℤ) (f : Float) (b : Bool) → n ≡ suc m → le (growth s) f ≡ b → first_from n s f ≡ cond b s (first_from m (s +ℤ pos 1) f)
+chosen n m s f b e g = ap (λ (k : ℕ). first_from k s f) e ∙ ap (λ (b : Bool). cond b s (first_from m (s +ℤ pos 1) f)) g
+
+fewer : (s : ℤ) → s <ℤ pos 8 → nat_abs (pos 8 -ℤ s) ≡ suc (nat_abs (pos 8 -ℤ (s +ℤ pos 1)))
+fewer s l = omega (arith, ints)
+
+pub found_here : (s : ℤ) (f : Float) → s <ℤ pos 8 → le (growth s) f ≡ true → fitting_from s f ≡ s
+found_here s f l g = chosen _ _ s f true (fewer s l) g
+
+pub found_later : (s : ℤ) (f : Float) → s <ℤ pos 8 → le (growth s) f ≡ false → fitting_from s f ≡ fitting_from (s +ℤ pos 1) f
+found_later s f l g = chosen _ _ s f false (fewer s l) g
 
 record First (n : ℕ) (s : ℤ) (f : Float) (r : ℤ) : Type 0 where
   pub from : s ≤ℤ r
@@ -65,6 +75,6 @@ schema_smallest f = record { known = known (first_from 12 (negsuc 3) f) r.from r
     known : (x : ℤ) → negsuc 3 ≤ℤ x → x ≤ℤ pos 8 → T (is_schema x)
     known x l h = both (le_z (negsuc 3) x) (le_z x (pos 8)) l.le h.le
 
-pub begins : (f : Float) → schema_for f ≡ first_from 12 (negsuc 3) f
+pub begins : (f : Float) → schema_for f ≡ fitting_from (negsuc 3) f
 unfolding schema_for
 begins f = refl

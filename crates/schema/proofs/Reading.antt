@@ -60,34 +60,6 @@ cut_powers (suc b) i h = sym (ap (scaled (2 ^ 52)) (turned (i *ℤ pos (2 ^ suc 
     turned : (z : ℤ) → z +ℤ pos 1 +ℤ pos 1021 ≡ z +ℤ pos 1021 +ℤ pos 1
     turned z = omega (arith, ints)
 
--- a product of an index and a small number
-pub times_range : (z : ℤ) (d : ℕ) → negsuc 4294967296 ≤ℤ z → z ≤ℤ pos 4294967296 → d ≤ 16 → (negsuc 99999999999 ≤ℤ (z *ℤ pos d)) × ((z *ℤ pos d) ≤ℤ pos 99999999999)
-times_range (pos q) d l h g = (omega (arith, ints, mul-le-mul (fewer q h) g), omega (arith, ints, mul-le-mul (fewer q h) g))
-  where
-    fewer : (q : ℕ) → pos q ≤ℤ pos 4294967296 → q ≤ 4294967296
-    fewer q h = omega (arith, ints)
-times_range (negsuc q) d l h g = (omega (arith, ints, mul-le-mul (fewer q l) g), omega (arith, ints, mul-le-mul (fewer q l) g))
-  where
-    fewer : (q : ℕ) → negsuc 4294967296 ≤ℤ negsuc q → suc q ≤ 4294967297
-    fewer q h = omega (arith, ints)
-
--- ---- a schema's number, as the program has it
-
-pub fine : (s : ℤ) → SFits w8 s → le_z (pos 0) (to_z w8 (of_z w8 s)) ≡ true → pos (nat_abs (to_z w8 (of_z w8 s))) ≡ s
-fine s h e = omega (arith, ints)
-
-pub wide : (s : ℤ) → T (is_schema s) → le_z (pos 0) (to_z w8 (of_z w8 s)) ≡ false → neg_ℤ (pos (nat_abs (to_z w8 (of_z w8 (pos 0 -ℤ to_z w8 (of_z w8 s)))))) ≡ s
-wide s h e =
-    let l : negsuc 3 ≤ℤ s = record { le = and_left (le_z (negsuc 3) s) (le_z s (pos 8)) h } in
-    let g : s ≤ℤ pos 8 = record { le = and_right (le_z (negsuc 3) s) (le_z s (pos 8)) h } in
-    omega (arith, ints)
-
-pub wide_range : (s : ℤ) → T (is_schema s) → le_z (pos 0) (to_z w8 (of_z w8 s)) ≡ false → (1 ≤ nat_abs (to_z w8 (of_z w8 (pos 0 -ℤ to_z w8 (of_z w8 s))))) × (nat_abs (to_z w8 (of_z w8 (pos 0 -ℤ to_z w8 (of_z w8 s)))) ≤ 4)
-wide_range s h e =
-    let l : negsuc 3 ≤ℤ s = record { le = and_left (le_z (negsuc 3) s) (le_z s (pos 8)) h } in
-    let g : s ≤ℤ pos 8 = record { le = and_right (le_z (negsuc 3) s) (le_z s (pos 8)) h } in
-    (omega (arith, ints), omega (arith, ints))
-
 pub few_octaves : (n : ℕ) → n ≤ 4 → 2 ^ n ≤ 16
 few_octaves n h = pow_mono {j = 4} h
 

@@ -1,5 +1,7 @@
 -- The tables' rules at each entry, from the one test of all nine tables.
-use Rattle.std.proofs.Common.{◌≡◌, ℕ, zero, suc, ◌+◌, ◌-◌, ◌*◌, ◌^◌, ◌<◌, ◌≤◌, Bool, true, false, ◌&&◌, T, eqb, ltb, List, [], ◌∷◌, length, get_or, sym, refl, ap, ◌∙◌, subst, lt_trans, le_of_eq, lt_of_lt_of_le, le_of_suc-le-suc, not-suc-le-zero, add-zero, zero-add, add-one, arith, eqb→eq, ltb→lt}
+use Rattle.std.proofs.Common.{◌≡◌, ℕ, zero, suc, ◌+◌, ◌-◌, ◌*◌, ◌^◌, ◌<◌, ◌≤◌, Bool, true, false, ◌&&◌, T, eqb, ltb, List, [], ◌∷◌, length, get_or, ℤ, pos, negsuc, ◌≤ℤ◌, sym, refl, ap, ◌∙◌, subst, lt_trans, le_of_eq, lt_of_lt_of_le, le_of_suc-le-suc, not-suc-le-zero, add-zero, zero-add, add-one, arith, eqb→eq, ltb→lt}
+use borrow.Author.Differences.{ints}
+use Rattle.schema.specs.Bounds.{is_schema}
 use Rattle.schema.specs.Tables.{tables, table, rising_from, proper, thins, thins_next, lawful_from, TableRules}
 
 pub and_left : (a b : Bool) → T (a && b) → T a
@@ -9,6 +11,14 @@ and_left false b h = h
 pub and_right : (a b : Bool) → T (a && b) → T b
 and_right true b h = h
 and_right false b h = absurd h
+
+-- ---- a schema's number
+
+pub schema_range : (s : ℤ) → T (is_schema s) → (negsuc 3 ≤ℤ s) × (s ≤ℤ pos 8)
+schema_range s h = (grind (arith, ints), grind (arith, ints))
+
+pub schema_within : (s : ℤ) → negsuc 3 ≤ℤ s → s ≤ℤ pos 8 → T (is_schema s)
+schema_within s l h = grind (arith, ints)
 
 -- ---- one table
 

@@ -3,3 +3,4 @@ pub mod Bounds
 pub mod Factor
 pub mod Faults
 pub mod Laws
+pub mod Layout

@@ -6,59 +6,51 @@ ghost use Rattle.schema.specs.Tables.{entry};
 ghost use Rattle.schema.specs.Bounds.{bound, Largest};
 
 use crate::kinds::Schema;
+use crate::layout::Layout;
 use crate::scale::scale;
-use crate::tables::entries;
+use crate::tables::OctaveTable;
+use crate::wide::WideBuckets;
 
-// An entry of schema a, from 0 to 8, times 2^53.
-fn mantissa(a: usize, place: usize) -> u64
-    requires known { a ≤ 8 }
-    requires within { place < 2 ^ a }
-    ensures { result ≡ entry a place }
-{
-    entries(a)[place].to_bits() - 0x3fd0_0000_0000_0000
-}
+impl OctaveTable {
+    // An entry times 2^53.
+    fn mantissa(self, place: usize) -> u64
+        requires { place < 2 ^ self.schema }
+        ensures value { result ≡ entry self.schema place }
+        ensures low { 2 ^ 52 ≤ result }
+        ensures high { result < 2 ^ 53 }
+    {
+        self.entries()[place].to_bits() - 0x3fd0_0000_0000_0000
+    }
 
-// The octave of an index at schema a, from 0 to 8, and its place there: the index divided by 2^a, and the rest.
-fn octave(a: usize, index: i32) -> (i32, usize)
-    requires { a ≤ 8 }
-    ensures octave { result.0 ≡ quotient (2 ^ a) index }
-    ensures place { result.1 ≡ remainder (2 ^ a) index }
-{
-    let count = entries(a).len() as i32;
-    (index.div_euclid(count), index.rem_euclid(count) as usize)
-}
+    // The octave of an index and its place there: the index divided by the number of buckets, and the rest.
+    fn octave(self, index: i32) -> (i32, usize)
+        ensures octave { result.0 ≡ quotient (2 ^ self.schema) index }
+        ensures place { result.1 ≡ remainder (2 ^ self.schema) index }
+    {
+        let buckets = self.buckets();
+        (
+            index.div_euclid(buckets),
+            index.rem_euclid(buckets) as usize,
+        )
+    }
 
-// The bound of an index at schema a, from 0 to 8: an entry of the table, in the index's octave.
-fn table_bound(a: usize, index: i32) -> f64
-    requires { a ≤ 8 }
-    ensures { result ≡ bound (pos a) index }
-{
-    let (octave, place) = octave(a, index);
-    scale(mantissa(a, place), i64::from(octave) + 1)
-}
-
-// How many octaves a bucket spans at schema -n, from -4 to -1.
-pub(crate) fn octaves_wide(n: u8) -> i32
-    requires low { 1 ≤ n }
-    requires high { n ≤ 4 }
-    ensures { result ≡ pos (2 ^ n) }
-{
-    match n {
-        1 => 2,
-        2 => 4,
-        3 => 8,
-        _ => 16,
+    // The bound of an index: an entry of the table, in the index's octave.
+    fn bound(self, index: i32) -> f64
+        ensures { result ≡ bound (pos self.schema) index }
+    {
+        let (octave, place) = self.octave(index);
+        scale(self.mantissa(place), i64::from(octave) + 1)
     }
 }
 
-// The bound of an index at schema -n, from -4 to -1: a power of two.
-fn power_bound(n: u8, index: i32) -> f64
-    requires low { 1 ≤ n }
-    requires high { n ≤ 4 }
-    ensures { result ≡ bound (neg_ℤ (pos n)) index }
-{
-    let power = i64::from(index) * i64::from(octaves_wide(n));
-    scale(0x10_0000_0000_0000, power + 1)
+impl WideBuckets {
+    // The bound of an index: a power of two.
+    fn bound(self, index: i32) -> f64
+        ensures { result ≡ bound (neg_ℤ (pos self.doublings)) index }
+    {
+        let power = i64::from(index) * i64::from(self.octaves());
+        scale(0x10_0000_0000_0000, power + 1)
+    }
 }
 
 // The bound of an index: the largest double that is at most the exact bound, infinity past 2^1024.
@@ -67,9 +59,8 @@ pub fn positive_upper_bound(schema: Schema, index: i32) -> f64
     ensures largest { Largest schema.value index result }
     ensures rises { T (le result (bound schema.value (index +ℤ pos 1))) }
 {
-    if schema.value >= 0 {
-        table_bound(schema.value as usize, index)
-    } else {
-        power_bound((-schema.value) as u8, index)
+    match schema.layout() {
+        Layout::Table(table) => table.bound(index),
+        Layout::Powers(buckets) => buckets.bound(index),
     }
 }

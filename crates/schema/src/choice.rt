@@ -14,10 +14,8 @@ use crate::kinds::Schema;
 fn first_fitting(factor: f64) -> Schema
     ensures { result.value ≡ schema_for factor }
 {
-    for step in 0..12u8 {
-        let schema = Schema {
-            value: step as i8 - 4,
-        };
+    for value in -4..8 {
+        let schema = Schema { value };
         if positive_upper_bound(schema, 1) <= factor {
             return schema;
         }
@@ -30,10 +28,11 @@ impl Schema {
     pub fn new(value: i8) -> Result<Schema, SchemaFault>
         ensures { MatchResult result (λ s. s.value ≡ value) (λ f. T (not (is_schema value)) × (refusal f ≡ (1, pos 0))) }
     {
-        if value < -4 || value > 8 {
-            return Err(SchemaFault::OutOfRange);
+        if (-4..=8).contains(&value) {
+            Ok(Schema { value })
+        } else {
+            Err(SchemaFault::OutOfRange)
         }
-        Ok(Schema { value })
     }
 
     // The coarsest schema whose bounds grow by at most the factor from one to the next, else 8.
@@ -58,13 +57,7 @@ impl Schema {
     pub fn coarser(self) -> Option<Schema>
         ensures { MatchOption result (self.value ≡ neg_ℤ (pos 4)) (λ t. Coarser self.value t.value) }
     {
-        if self.value > -4 {
-            Some(Schema {
-                value: self.value - 1,
-            })
-        } else {
-            None
-        }
+        Schema::new(self.value - 1).ok()
     }
 
     // The lowest index, that of 2^-1074, and the highest, that of infinity.

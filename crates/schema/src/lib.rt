@@ -6,8 +6,10 @@ mod choice;
 mod faults;
 mod indices;
 mod kinds;
+mod layout;
 mod scale;
 mod tables;
+mod wide;
 
 pub use bounds::positive_upper_bound;
 pub use faults::SchemaFault;

@@ -1,13 +1,29 @@
 // The nine tables of bucket bounds between 0.5 and 1.
-ghost use Rattle.std.specs.Prelude.{◌≡◌, ℕ, ◌≤◌, T};
+ghost use Rattle.std.specs.Prelude.{◌≡◌, ℕ, ◌^◌, ◌≤◌, T, length, pos};
 ghost use Rattle.schema.specs.Tables.{table, tables, doubles, lawful_from, TableRules};
 
-// The entries of schema a, from 0 to 8.
-pub(crate) fn entries(a: usize) -> &'static [f64]
-    requires { a ≤ 8 }
-    ensures { result.now ≡ doubles (table a) }
-{
-    NATIVE_HISTOGRAM_BOUNDS[a]
+// The table of the bounds of one octave, at a schema from 0 to 8.
+#[derive(Clone, Copy)]
+pub(crate) struct OctaveTable {
+    pub(crate) schema: u8,
+    ghost known: { schema ≤ 8 },
+}
+
+impl OctaveTable {
+    // The entries, one for each bucket of an octave.
+    pub(crate) fn entries(self) -> &'static [f64]
+        ensures value { result.now ≡ doubles (table self.schema) }
+        ensures long { length result.now ≡ 2 ^ self.schema }
+    {
+        NATIVE_HISTOGRAM_BOUNDS[usize::from(self.schema)]
+    }
+
+    // How many buckets an octave has.
+    pub(crate) fn buckets(self) -> i32
+        ensures value { result ≡ pos (2 ^ self.schema) }
+    {
+        1 << self.schema
+    }
 }
 
 // The tables' rules: 2^s entries that rise strictly from 0.5 and stay below 1, and entry 2j of schema s + 1 is entry j of schema s.

@@ -1,27 +1,28 @@
-use Rattle.std.proofs.Common.{◌≡◌, true, T, ℤ, pos, negsuc, ◌-ℤ◌, ◌≤ℤ◌, sym, subst, arith, w8, to_z, of_z}
+use Rattle.std.proofs.Common.{◌≡◌, not, T, ℤ, pos, negsuc, ◌-ℤ◌, sym, ◌∙◌, subst, arith, Ok, Err, Result, MatchOption, MatchResult}
 use borrow.Author.Differences.{ints}
-use lib.Signed.{le_z, lt_z}
+use Rattle.std.specs.Result.{result_ok}
+use Rattle.schema.specs.declared.kinds.Schema.{Schema}
+use Rattle.schema.specs.declared.faults.SchemaFault.{SchemaFault}
 use Rattle.schema.specs.Bounds.{is_schema}
+use Rattle.schema.specs.Faults.{refusal}
 use Rattle.schema.specs.Laws.{Coarser}
-use Rattle.schema.proofs.Rules.{and_left, and_right}
-use Rattle.schema.proofs.Laws.{both, bound_nested, halved_index}
+use Rattle.schema.proofs.Rules.{schema_range}
+use Rattle.schema.proofs.Laws.{bound_nested, halved_index}
 use Rattle.schema.proofs.kinds.Schema.coarser.Goals as goal
 
-record Below (s t : ℤ) : Type 0 where
-  pub is : t ≡ s -ℤ pos 1
-  pub known : T (is_schema (s -ℤ pos 1))
+coarse : (s : ℤ) → T (is_schema s) → T (is_schema (s -ℤ pos 1)) → Coarser s (s -ℤ pos 1)
+coarse s h g = record { next = λ i. s -ℤ pos 1; bounds = λ i. bound_nested s i h g; indices = λ v k n. halved_index s v h g k.0 n }
 
-below : (s : ℤ) → T (is_schema s) → lt_z (negsuc 3) (to_z w8 (of_z w8 s)) ≡ true → Below s (to_z w8 (of_z w8 (to_z w8 (of_z w8 s) -ℤ pos 1)))
-below s h e =
-    let l : negsuc 3 ≤ℤ s = record { le = and_left (le_z (negsuc 3) s) (le_z s (pos 8)) h } in
-    let g : s ≤ℤ pos 8 = record { le = and_right (le_z (negsuc 3) s) (le_z s (pos 8)) h } in
-    let low : negsuc 3 ≤ℤ (s -ℤ pos 1) = omega (arith, ints) in
-    let high : (s -ℤ pos 1) ≤ℤ pos 8 = omega (arith, ints) in
-    record { is = omega (arith, ints); known = both (le_z (negsuc 3) (s -ℤ pos 1)) (le_z (s -ℤ pos 1) (pos 8)) low.le high.le }
+coarsest : (s : ℤ) → T (is_schema s) → T (not (is_schema (s -ℤ pos 1))) → s ≡ negsuc 3
+coarsest s h g = grind (arith, ints)
 
-pub returns-then-self-gtminus4 : goal.returns-then-self-gtminus4
-returns-then-self-gtminus4 c =
-    let s = c.args.self.value in
-    let b = below s c.args.self.known c.if-self-gtminus4.true in
-    subst (Coarser s) (sym b.is)
-    (record { next = λ i. s -ℤ pos 1; bounds = λ i. bound_nested s i c.args.self.known b.known; indices = λ v k n. halved_index s v c.args.self.known b.known k.0 n })
+-- of the schema that the number less one makes, or of the refusal
+met : (s t : ℤ) (r : Result Schema SchemaFault) → T (is_schema s) → t ≡ s -ℤ pos 1 → MatchResult r (λ n. n.value ≡ t) (λ f. T (not (is_schema t)) × (refusal f ≡ (1, pos 0)))
+    → MatchOption (result_ok r) (s ≡ negsuc 3) (λ n. Coarser s n.value)
+met s t (Ok n) h e q = subst (Coarser s) (sym (q ∙ e)) (coarse s h (subst (λ (z : ℤ). T (is_schema z)) (q ∙ e) n.known))
+met s t (Err f) h e q = coarsest s h (subst (λ (z : ℤ). T (not (is_schema z))) e q.0)
+
+pub returns : goal.returns
+returns c =
+    let r = schema_range c.args.self.value c.args.self.known in
+    rw c.ok.ensures.value (met c.args.self.value _ c.new.result c.args.self.known (omega (arith, ints)) c.new.ensures)
