@@ -262,15 +262,15 @@ zero_tested (fin s (suc m) e) h =
 
 -- ---- a double taken apart into q × 2^k units
 
-pub record Parts (v : Float) (q k : ℕ) : Type 0 where
+pub record Written (v : Float) (q k : ℕ) : Type 0 where
   pub bits : of_bits binary64 (1021 * 2 ^ 52 + full q) ≡ fraction v
   pub power : exponent v ≡ pos (k + size q) -ℤ pos 1074
 
-pub parts : (v : Float) (q k : ℕ) → T (fits binary64 v) → T (finite_nonzero v) → 0 < q → q < 2 ^ 53 → q * 2 ^ k ≡ units v → Parts v q k
-parts nan q k f h p d w = absurd h
-parts (inf s) q k f h p d w = absurd h
-parts (fin s zero e) q k f h p d w = absurd h
-parts (fin s (suc m) e) q k f h p d w = record { bits = fraction_bits s m e q k f p d w; power = exponent_is s m e q k f p w }
+pub written : (v : Float) (q k : ℕ) → T (fits binary64 v) → T (finite_nonzero v) → 0 < q → q < 2 ^ 53 → q * 2 ^ k ≡ units v → Written v q k
+written nan q k f h p d w = absurd h
+written (inf s) q k f h p d w = absurd h
+written (fin s zero e) q k f h p d w = absurd h
+written (fin s (suc m) e) q k f h p d w = record { bits = fraction_bits s m e q k f p d w; power = exponent_is s m e q k f p w }
 
 -- ---- doubles from 1/2 up to 1: n / 2^53, with n of 53 digits
 

@@ -1,9 +1,9 @@
 -- The bits of a finite double that is not zero: q × 2^k units are written as k × 2^52 + q.
-use Rattle.std.proofs.Common.{◌≡◌, ℕ, zero, suc, ◌+◌, ◌-◌, ◌*◌, ◌/◌, ◌%◌, ◌^◌, ◌<◌, ◌≤◌, Bool, true, false, cond, T, ◌⊎◌, ℤ, sym, refl, ap, ◌∙◌, subst, ap₂, inl, inr, ⊎_elim, le_trans, le_of_eq, lt_of_lt_of_le, lt_of_le_of_lt, lt_irrefl, zero-lt-suc, eq-zero-or-pos, le_antisymm, mul-pos, le-div_iff_mul-le, zero-mul, arith, pow_pos, pow-add}
+use Rattle.std.proofs.Common.{◌≡◌, ℕ, zero, suc, ◌+◌, ◌-◌, ◌*◌, ◌/◌, ◌%◌, ◌^◌, ◌<◌, ◌≤◌, Bool, true, false, T, ◌⊎◌, ℤ, sym, refl, ap, ◌∙◌, subst, ap₂, inl, inr, ⊎_elim, le_trans, le_of_eq, lt_of_lt_of_le, lt_of_le_of_lt, lt_irrefl, zero-lt-suc, zero-add, eq-zero-or-pos, le_antisymm, mul-pos, le-div_iff_mul-le, zero-mul, arith, pow_pos, pow-add}
 use lib.Ieee.{Float, nan, inf, fin, binary64, size, fits, to_bits}
 use lib.Ieee.Digits.{size-le, size_reaches}
 use lib.Ieee.Fits.{kept-lt}
-use Rattle.double.specs.Double.{units, finite_nonzero}
+use Rattle.double.specs.Double.{units, magnitude, finite_nonzero}
 use Rattle.double.proofs.Scale.{lift}
 use Rattle.double.proofs.Order.{fits_digits, fits_low, units_under, units_lift}
 use Rattle.double.proofs.Digits.{kept_le, kept_largest}
@@ -18,16 +18,12 @@ factor (suc a) b h = zero-lt-suc a
 pub record Shape (v : Float) : Type 0 where
   pub k : ℕ
   pub q : ℕ
-  pub bits : to_bits binary64 v % 2 ^ 63 ≡ k * 2 ^ 52 + q
+  pub bits : to_bits binary64 (magnitude v) ≡ k * 2 ^ 52 + q
   pub whole : q * 2 ^ k ≡ units v
   pub digits : q < 2 ^ 53
   pub leading : (k ≡ 0) ⊎ (2 ^ 52 ≤ q)
   pub small : k ≤ 2045
   pub nonzero : 0 < q
-
-unsigned : (s : Bool) (k q : ℕ) → k ≤ 2045 → q < 2 ^ 53 → (cond s (2 ^ 63) 0 + k * 2 ^ 52 + q) % 2 ^ 63 ≡ k * 2 ^ 52 + q
-unsigned true k q h g = omega arith
-unsigned false k q h g = omega arith
 
 few : (z : ℕ) → z ≤ 2098 → z - 53 ≤ 2045
 few z h = omega arith
@@ -35,7 +31,7 @@ few z h = omega arith
 at_top : (z : ℕ) → 0 < z - 53 → 52 + (z - 53) < z
 at_top z h = omega arith
 
-unit_bits : (s : Bool) (m : ℕ) (e : ℤ) → to_bits binary64 (fin s m e) ≡ cond s (2 ^ 63) 0 + (size (units (fin s m e)) - 53) * 2 ^ 52 + units (fin s m e) / 2 ^ (size (units (fin s m e)) - 53)
+unit_bits : (s : Bool) (m : ℕ) (e : ℤ) → to_bits binary64 (fin false m e) ≡ 0 + (size (units (fin s m e)) - 53) * 2 ^ 52 + units (fin s m e) / 2 ^ (size (units (fin s m e)) - 53)
 unfolding to_bits units
 unit_bits s m e = refl
 
@@ -46,7 +42,7 @@ shape (fin s zero e) f h = absurd h
 shape (fin s (suc m) e) f h = record {
   k = z - 53;
   q = n / 2 ^ (z - 53);
-  bits = ap (λ (b : ℕ). b % 2 ^ 63) (unit_bits s (suc m) e) ∙ unsigned s (z - 53) (n / 2 ^ (z - 53)) short (kept-lt 53 n);
+  bits = unit_bits s (suc m) e ∙ ap (λ (a : ℕ). a + n / 2 ^ (z - 53)) (zero-add _);
   whole = exact;
   digits = kept-lt 53 n;
   leading = ⊎_elim inl (λ g. inr ((le-div_iff_mul-le (pow_pos (z - 53))).1 (le_trans (le_of_eq (sym (pow-add 2 52 (z - 53)))) (size_reaches n (52 + (z - 53)) (at_top z g))))) (eq-zero-or-pos (z - 53));
@@ -77,30 +73,17 @@ pub record Taken (v : Float) (mantissa shift : ℕ) : Type 0 where
   pub small : shift < 2046
   pub nonzero : 0 < mantissa
 
-pub taken_low : (v : Float) → Shape v → to_bits binary64 v % 2 ^ 63 / 2 ^ 52 ≡ 0 → Taken v (to_bits binary64 v % 2 ^ 63 % 2 ^ 52) 0
-taken_low v s h = record {
-  whole = ap₂ (λ (a b : ℕ). a * 2 ^ b) same none ∙ s.whole;
-  digits = lt_of_le_of_lt (le_of_eq same) s.digits;
-  small = omega arith;
-  nonzero = lt_of_lt_of_le s.nonzero (le_of_eq (sym same));
+taken : (v : Float) (m k : ℕ) → (s : Shape v) → m ≡ s.q → k ≡ s.k → Taken v m k
+taken v m k s p r = record {
+  whole = ap₂ (λ (a b : ℕ). a * 2 ^ b) p r ∙ s.whole;
+  digits = lt_of_le_of_lt (le_of_eq p) s.digits;
+  small = omega (arith, s.small);
+  nonzero = lt_of_lt_of_le s.nonzero (le_of_eq (sym p));
 }
-  where
-    none : 0 ≡ s.k
-    none = omega (arith, s.bits, s.leading)
 
-    same : to_bits binary64 v % 2 ^ 63 % 2 ^ 52 ≡ s.q
-    same = omega (arith, s.bits, s.leading)
+-- m and k are what b, the bits of the magnitude, has for the two
+pub taken_low : (v : Float) (b m k : ℕ) → Shape v → b ≡ to_bits binary64 (magnitude v) → b / 2 ^ 52 ≡ 0 → m ≡ b % 2 ^ 52 → k ≡ 0 → Taken v m k
+taken_low v b m k s e h p r = taken v m k s (omega (arith, s.bits, s.leading)) (omega (arith, s.bits, s.leading))
 
-pub taken_high : (v : Float) → Shape v → (to_bits binary64 v % 2 ^ 63 / 2 ^ 52 ≡ 0 → ⊥) → Taken v (to_bits binary64 v % 2 ^ 63 % 2 ^ 52 + 2 ^ 52) (to_bits binary64 v % 2 ^ 63 / 2 ^ 52 - 1)
-taken_high v s h = record {
-  whole = ap₂ (λ (a b : ℕ). a * 2 ^ b) same field ∙ s.whole;
-  digits = omega arith;
-  small = lt_of_le_of_lt (le_of_eq field) (omega (arith, s.small));
-  nonzero = omega arith;
-}
-  where
-    same : to_bits binary64 v % 2 ^ 63 % 2 ^ 52 + 2 ^ 52 ≡ s.q
-    same = omega (arith, s.bits, s.leading, s.digits)
-
-    field : to_bits binary64 v % 2 ^ 63 / 2 ^ 52 - 1 ≡ s.k
-    field = omega (arith, s.bits, s.leading, s.digits)
+pub taken_high : (v : Float) (b m k : ℕ) → Shape v → b ≡ to_bits binary64 (magnitude v) → (b / 2 ^ 52 ≡ 0 → ⊥) → m ≡ b % 2 ^ 52 + 2 ^ 52 → k ≡ b / 2 ^ 52 - 1 → Taken v m k
+taken_high v b m k s e h p r = taken v m k s (omega (arith, s.bits, s.leading, s.digits)) (omega (arith, s.bits, s.leading, s.digits))

@@ -1,42 +1,65 @@
 // Exact doubles: the fraction and the exponent of a magnitude.
 #![tactic(auto)]
 
-ghost use Rattle.std.specs.Prelude.{◌≡◌, ◌+◌, ◌-◌, ◌*◌, ◌^◌, ◌<◌, not, T, pos, negsuc, ◌≤ℤ◌, from_bits};
+ghost use Rattle.std.specs.Prelude.{◌≡◌, ◌+◌, ◌-◌, ◌*◌, ◌^◌, ◌<◌, ◌≤◌, not, T, pos, negsuc, ◌-ℤ◌, ◌≤ℤ◌, from_bits};
 ghost use Rattle.std.specs.Float.{binary64};
 ghost use Rattle.std.specs.Float.Ieee.{size};
 ghost use Rattle.double.specs.Double.{fraction, exponent, finite_nonzero, units, zero_double, Splits};
 
-// The magnitude of v as mantissa × 2^shift units of 2^-1074, the mantissa below 2^53.
-fn split(v: f64) -> (u64, u32)
-    requires { T (finite_nonzero v) }
-    ensures whole { result.0 * 2 ^ result.1 ≡ units v }
-    ensures digits { result.0 < 2 ^ 53 }
-    ensures nonzero { 0 < result.0 }
-    ensures small { result.1 < 2046 }
-{
-    let bits = v.to_bits() % 0x8000_0000_0000_0000;
-    let field = bits >> 52;
-    let digits = bits % 0x10_0000_0000_0000;
-    if field == 0 {
-        (digits, 0)
-    } else {
-        (digits + 0x10_0000_0000_0000, (field - 1) as u32)
-    }
+// A magnitude other than zero: mantissa × 2^shift units of 2^-1074.
+#[derive(Clone, Copy)]
+struct Parts {
+    mantissa: u64,
+    shift: u32,
+    ghost nonzero: { 0 < mantissa },
+    ghost digits: { mantissa < 2 ^ 53 },
+    ghost small: { shift < 2046 },
 }
 
-// The mantissa as a fraction at least 0.5 and below 1, by dividing it by 2^digits; and how many binary digits it has.
-fn normalize(mantissa: u64) -> (f64, u32)
-    requires nonzero { 0 < mantissa }
-    requires digits { mantissa < 2 ^ 53 }
-    ensures fraction { result.0 ≡ from_bits binary64 (1021 * 2 ^ 52 + mantissa * 2 ^ (53 - size mantissa)) }
-    ensures digits { result.1 ≡ size mantissa }
-    ensures small { result.1 < 54 }
-{
-    let digits = 64 - mantissa.leading_zeros();
-    (
-        f64::from_bits((1021 << 52) + (mantissa << (53 - digits))),
-        digits,
-    )
+impl Parts {
+    // The magnitude of v.
+    fn of(v: f64) -> Parts
+        requires { T (finite_nonzero v) }
+        ensures { result.mantissa * 2 ^ result.shift ≡ units v }
+    {
+        let bits = v.abs().to_bits();
+        let field = bits >> 52;
+        let digits = bits % 0x10_0000_0000_0000;
+        if field == 0 {
+            Parts {
+                mantissa: digits,
+                shift: 0,
+            }
+        } else {
+            Parts {
+                mantissa: digits + 0x10_0000_0000_0000,
+                shift: (field - 1) as u32,
+            }
+        }
+    }
+
+    // How many binary digits the mantissa has.
+    fn digits(self) -> u32
+        ensures value { result ≡ size self.mantissa }
+        ensures few { result ≤ 53 }
+    {
+        u64::BITS - self.mantissa.leading_zeros()
+    }
+
+    // The mantissa divided by 2^digits: at least 0.5 and below 1.
+    fn fraction(self) -> f64
+        ensures { result ≡ from_bits binary64 (1021 * 2 ^ 52 + self.mantissa * 2 ^ (53 - size self.mantissa)) }
+    {
+        f64::from_bits((1021 << 52) + (self.mantissa << (53 - self.digits())))
+    }
+
+    // The power of two that the fraction is times, to make the magnitude.
+    fn exponent(self) -> i32
+        ensures value { result ≡ pos (self.shift + size self.mantissa) -ℤ pos 1074 }
+        ensures range { (negsuc 1073 ≤ℤ result) × (result ≤ℤ pos 1024) }
+    {
+        (self.shift + self.digits()) as i32 - 1074
+    }
 }
 
 // The magnitude of v as fraction × 2^exponent, exactly, the fraction at least 0.5 and below 1, subnormals included.
@@ -50,7 +73,6 @@ pub fn frexp(v: f64) -> (f64, i32)
     if !v.is_finite() || v == 0.0 {
         return (0.0, 0);
     }
-    let (mantissa, shift) = split(v);
-    let (fraction, digits) = normalize(mantissa);
-    (fraction, (shift + digits) as i32 - 1074)
+    let parts = Parts::of(v);
+    (parts.fraction(), parts.exponent())
 }

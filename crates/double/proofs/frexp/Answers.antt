@@ -1,9 +1,10 @@
-use Rattle.std.proofs.Common.{◌≡◌, ℕ, zero, suc, ◌+◌, ◌<◌, not, T, ℤ, pos, negsuc, ◌-ℤ◌, ◌≤ℤ◌, sym, refl, ap, ◌∙◌, subst, arith, T_not, w32, to_z, of_z}
+use Rattle.std.proofs.Common.{◌≡◌, zero, suc, not, T, ℤ, pos, negsuc, ◌≤ℤ◌, sym, refl, ◌∙◌, subst, arith, T_not, w32, SFits, rules}
 use borrow.Author.Differences.{ints}
 use lib.Ieee.{Float, nan, inf, fin, binary64, fits, of_bits}
+use Rattle.std.proofs.lemmas.Int.{to_z-of_z}
 use Rattle.double.specs.Double.{fraction, exponent, finite_nonzero, zero_double, Splits}
 use Rattle.double.proofs.Shape.{passes}
-use Rattle.double.proofs.Fraction.{nonzero_tested, infinite_tested, zero_tested, splits, Parts, parts}
+use Rattle.double.proofs.Fraction.{nonzero_tested, infinite_tested, zero_tested, splits, Written, written}
 use Rattle.double.proofs.frexp.Goals as goal
 use Rattle.double.proofs.frexp.Goals.{then-not-is_finite-via-then-not-is_finite, then-not-is_finite-via-else-not-is_finite+then-v}
 
@@ -34,22 +35,16 @@ returns-then-not-is_finite c =
       | then-not-is_finite-via-else-not-is_finite+then-v w ↦ zero_tested c.args.v w.if-v.true
     ])
 
-pub split-mantissa-requires : goal.split-mantissa-requires
-split-mantissa-requires c = nonzero_tested c.args.v (sym c.if-not-is_finite.ensures.value) c.if-v.false
-
-narrow : (k z : ℕ) → k < 2046 → z < 54 → to_z w32 (of_z w32 (to_z w32 (k + z) -ℤ pos 1074)) ≡ pos (k + z) -ℤ pos 1074
-narrow k z h g = omega (arith, ints)
-
-limits : (k z : ℕ) → k < 2046 → z < 54 → (negsuc 1073 ≤ℤ to_z w32 (of_z w32 (to_z w32 (k + z) -ℤ pos 1074))) × (to_z w32 (of_z w32 (to_z w32 (k + z) -ℤ pos 1074)) ≤ℤ pos 1024)
-limits k z h g = (omega (arith, ints), omega (arith, ints))
+pub of-parts-requires : goal.of-parts-requires
+of-parts-requires c = nonzero_tested c.args.v (sym c.if-not-is_finite.ensures.value) c.if-v.false
 
 pub returns : goal.returns
 returns c =
     let v = c.args.v in
-    let s = c.split-mantissa in
-    let n = c.normalize-fraction in
+    let m = c.of-parts.result in
     let h : T (finite_nonzero v) = nonzero_tested v (sym c.if-not-is_finite.ensures.value) c.if-v.false in
-    let p : Parts v s.result.0 s.result.1 = parts v s.result.0 s.result.1 (passes _ c.well_formed.0.1) h s.ensures.nonzero s.ensures.digits s.ensures.whole in
-    some v n.result.0 _ (passes _ c.well_formed.0.1) h (n.ensures.fraction ∙ p.bits)
-    (narrow s.result.1 n.result.1 s.ensures.small n.ensures.small ∙ ap (λ (z : ℕ). pos (s.result.1 + z) -ℤ pos 1074) n.ensures.digits ∙ sym p.power)
-    (limits s.result.1 n.result.1 s.ensures.small n.ensures.small)
+    let p : Written v m.mantissa m.shift = written v m.mantissa m.shift (passes _ c.well_formed.0.1) h m.nonzero m.digits c.of-parts.ensures in
+    let f : SFits w32 c.exponent.result = search rules in
+    let e = to_z-of_z w32 c.exponent.result f in
+    let r = c.exponent.ensures.range in
+    some v c.fraction.result _ (passes _ c.well_formed.0.1) h (c.fraction.ensures ∙ p.bits) (e ∙ c.exponent.ensures.value ∙ sym p.power) (omega (arith, ints), omega (arith, ints))
