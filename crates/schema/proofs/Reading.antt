@@ -2,13 +2,13 @@
 use Rattle.std.proofs.Common.{◌≡◌, ℕ, zero, suc, ◌+◌, ◌-◌, ◌*◌, ◌^◌, ◌<◌, ◌≤◌, true, false, not, T, List, get_or, ℤ, pos, negsuc, ◌+ℤ◌, ◌-ℤ◌, ◌*ℤ◌, neg_ℤ, nat_abs, ◌≤ℤ◌, sym, refl, ap, ◌∙◌, subst, le_of_eq, lt_of_lt_of_le, mul-le-mul, div-le_self, arith, pow_mono, w8, SFits, to_z, of_z}
 use borrow.Author.Differences.{ints}
 use lib.Signed.{le_z}
-use lib.Ieee.{Float, nan, binary64, is_nan, to_bits}
+use lib.Ieee.{Float, nan, binary64, is_nan, to_bits, of_bits}
 use lib.Ieee.Bits.{to_bits-of_bits}
 use Rattle.std.specs.Int.{int_div_euclid, int_rem_euclid}
 use Rattle.index.specs.Index.{quotient, remainder}
 use Rattle.double.proofs.Fraction.{normal_bits}
 use Rattle.schema.specs.Tables.{table, entry, entry_double, doubles}
-use Rattle.schema.specs.Bounds.{scaled, cut, is_schema, table_index, finite_index}
+use Rattle.schema.specs.Bounds.{scaled, cut, is_schema, table_index, finite_index, min_double, max_double}
 use Rattle.schema.proofs.Rules.{and_left, and_right, table_rules}
 use Rattle.schema.proofs.Counting.{full_table}
 use Rattle.schema.proofs.Scaled.{scaled_shift}
@@ -41,10 +41,6 @@ pub quotient_is : (i : ℤ) (d : ℕ) → int_div_euclid i (pos d) ≡ quotient 
 quotient_is (pos n) d = refl
 quotient_is (negsuc n) d = refl
 
-pub remainder_is : (i : ℤ) (d : ℕ) → nat_abs (int_rem_euclid i (pos d)) ≡ remainder d i
-remainder_is (pos n) d = refl
-remainder_is (negsuc n) d = refl
-
 pub cut_table : (a : ℕ) (i : ℤ) → cut (pos a) i ≡ scaled (entry a (remainder (2 ^ a) i)) (quotient (2 ^ a) i +ℤ pos 1 +ℤ pos 1021)
 unfolding cut
 cut_table a i = refl
@@ -70,6 +66,12 @@ finite_wide zero v h = absurd (never h)
     never h = omega arith
 finite_wide (suc b) v h = refl
 
-pub quotient_range : (d : ℕ) (z : ℤ) → negsuc 275199 ≤ℤ z → z ≤ℤ pos 262159 → (negsuc 275199 ≤ℤ quotient d z) × (quotient d z ≤ℤ pos 262159)
-quotient_range d (pos n) l h = (omega (arith, ints), omega (arith, ints, div-le_self n d))
-quotient_range d (negsuc n) l h = (omega (arith, ints, div-le_self n d), omega (arith, ints))
+-- ---- the ends of the finite doubles
+
+pub smallest_bits : of_bits binary64 1 ≡ min_double
+unfolding of_bits
+smallest_bits = refl
+
+pub largest_bits : of_bits binary64 9218868437227405311 ≡ max_double
+unfolding of_bits
+largest_bits = refl

@@ -13,7 +13,7 @@ pub enum SchemaFault {
 }
 
 impl SchemaFault {
-    // The number of the refusal.
+    // The number of the refusal. It is published and printed, so it is written out here and in the definition.
     pub fn number(&self) -> u8
         ensures { result ≡ (refusal self.now).0 }
     {
@@ -26,16 +26,10 @@ impl SchemaFault {
 
 impl fmt::Display for SchemaFault {
     fn fmt<W: fmt::Write>(&self, f: &mut fmt::Formatter<W>) -> fmt::Result {
-        let number = self.number();
-        match self {
-            SchemaFault::OutOfRange => write!(
-                f,
-                "refusal {number}: a schema is a whole number from -4 to 8"
-            ),
-            SchemaFault::BadFactor => write!(
-                f,
-                "refusal {number}: a bucket factor is a number above 1"
-            ),
-        }
+        let rule = match self {
+            SchemaFault::OutOfRange => "a schema is a whole number from -4 to 8",
+            SchemaFault::BadFactor => "a bucket factor is a number above 1",
+        };
+        write!(f, "refusal {}: {rule}", self.number())
     }
 }

@@ -11,20 +11,12 @@ pub(crate) fn scale(mantissa: u64, power: i64) -> f64
     requires most { power ≤ℤ pos 1099511627776 }
     ensures { result ≡ largest (scaled mantissa (power +ℤ pos 1021)) }
 {
-    let shift = power + 1021;
-    if shift > 2046 {
-        f64::INFINITY
-    } else if shift == 2046 {
-        if mantissa > 0x10_0000_0000_0000 {
-            f64::INFINITY
-        } else {
-            f64::MAX
-        }
-    } else if shift >= 0 {
-        f64::from_bits((shift as u64) * 0x10_0000_0000_0000 + mantissa)
-    } else if shift > -53 {
-        f64::from_bits(mantissa >> (-shift))
-    } else {
-        0.0
+    match power + 1021 {
+        2047.. => f64::INFINITY,
+        2046 if mantissa > 0x10_0000_0000_0000 => f64::INFINITY,
+        2046 => f64::MAX,
+        shift @ 0.. => f64::from_bits((shift.unsigned_abs() << 52) + mantissa),
+        shift @ -52.. => f64::from_bits(mantissa >> shift.unsigned_abs()),
+        _ => 0.0,
     }
 }

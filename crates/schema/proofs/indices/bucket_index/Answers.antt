@@ -1,4 +1,4 @@
-use Rattle.std.proofs.Common.{◌≡◌, zero, suc, Bool, true, false, cond, not, T, ℤ, pos, negsuc, ◌+ℤ◌, ◌≤ℤ◌, Some, None, Option, sym, refl, ap, ◌∙◌, subst, arith, w32, to_z, of_z}
+use Rattle.std.proofs.Common.{◌≡◌, zero, suc, Bool, true, false, cond, not, T, ℤ, pos, negsuc, ◌+ℤ◌, ◌≤ℤ◌, Some, None, Option, sym, refl, ap, ◌∙◌, subst, arith, w32, SFits, rules, to_z, of_z}
 use borrow.Author.Differences.{ints}
 use borrow.Author.Tests.{clash}
 use lib.Ieee.{Float, nan, inf, fin, binary64, fits, is_nan, eq, of_bits}
@@ -8,6 +8,8 @@ use Rattle.double.proofs.Shape.{passes}
 use Rattle.double.proofs.Fraction.{zero_tested, nonzero_tested}
 use Rattle.schema.specs.Bounds.{is_schema, finite_index, index, index_of, nonzero, max_double, OnlyBucket}
 use Rattle.schema.specs.Laws.{Ranged}
+use Rattle.std.proofs.lemmas.Int.{to_z-of_z}
+use Rattle.schema.proofs.Reading.{largest_bits}
 use Rattle.schema.proofs.Laws.{only_bucket, index_ranged}
 use Rattle.schema.proofs.indices.bucket_index.Goals as goal
 use Rattle.schema.proofs.indices.bucket_index.Goals.{then-is_nan-via-then-is_nan, then-is_nan-via-else-is_nan+then-v}
@@ -65,16 +67,6 @@ other_tested nan k e i = absurd (clash (sym k))
 other_tested (inf n) k e i = absurd (clash (sym i))
 other_tested (fin n m x) k e i = nonzero_tested (fin n m x) refl e
 
-largest_finite : of_bits binary64 9218868437227405311 ≡ max_double
-unfolding of_bits
-largest_finite = refl
-
-plus_one : (z : ℤ) → negsuc 275199 ≤ℤ z → z ≤ℤ pos 262159 → to_z w32 (of_z w32 (to_z w32 (of_z w32 z) +ℤ pos 1)) ≡ z +ℤ pos 1
-plus_one z l h = omega (arith, ints)
-
-same_back : (z : ℤ) → negsuc 275199 ≤ℤ z → z ≤ℤ pos 262159 → to_z w32 (of_z w32 z) ≡ z
-same_back z l h = omega (arith, ints)
-
 pub returns-then-is_nan : goal.returns-then-is_nan
 returns-then-is_nan c =
     let m = missed c.args.schema.value c.args.v
@@ -92,9 +84,11 @@ pub returns-then-is_infinite : goal.returns-then-is_infinite
 returns-then-is_infinite c =
     let s = c.args.schema.value in
     let v = c.args.v in
-    let r = c.finite_index.ensures.range in
     let i = infinite_index s v (sym c.if-is_infinite.ensures.value) in
-    let f = found s v _ c.args.schema.known (passes _ c.well_formed.1.0.1) i.0 (plus_one c.finite_index.result r.0 r.1 ∙ ap (λ (z : ℤ). z +ℤ pos 1) (c.finite_index.ensures.value ∙ ap (finite_index s) largest_finite) ∙ sym i.1) in
+    let value : c.finite_index.result ≡ finite_index s max_double = c.finite_index.ensures.value ∙ ap (finite_index s) largest_bits in
+    let is : index s v ≡ finite_index s max_double +ℤ pos 1 = i.1 in
+    let range = c.finite_index.ensures.range in
+    let f = found s v _ c.args.schema.known (passes _ c.well_formed.1.0.1) i.0 (omega (arith, ints)) in
     record { value = f.value; bucket = f.bucket; range = f.range }
 
 pub finite_index-requires-2 : goal.finite_index-requires-2
@@ -104,7 +98,7 @@ pub returns : goal.returns
 returns c =
     let s = c.args.schema.value in
     let v = c.args.v in
-    let r = c.finite_index-2.ensures.range in
     let i = other_index s v (sym c.if-is_nan.ensures.value) (other_tested v (sym c.if-is_nan.ensures.value) c.if-v.false (sym c.if-is_infinite.ensures.value)) in
-    let f = found s v _ c.args.schema.known (passes _ c.well_formed.1.0.1) i.0 (same_back c.finite_index-2.result r.0 r.1 ∙ c.finite_index-2.ensures.value ∙ sym i.1) in
+    let e : SFits w32 c.finite_index-2.result = search rules in
+    let f = found s v _ c.args.schema.known (passes _ c.well_formed.1.0.1) i.0 (to_z-of_z w32 _ e ∙ c.finite_index-2.ensures.value ∙ sym i.1) in
     record { value = f.value; bucket = f.bucket; range = f.range }

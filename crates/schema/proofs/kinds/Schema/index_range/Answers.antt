@@ -1,18 +1,11 @@
-use Rattle.std.proofs.Common.{◌≡◌, ℤ, pos, negsuc, ◌+ℤ◌, ◌≤ℤ◌, refl, ap, ◌∙◌, arith, w32, to_z, of_z}
+use Rattle.std.proofs.Common.{◌≡◌, ℤ, pos, ◌+ℤ◌, ap, ◌∙◌, arith}
 use borrow.Author.Differences.{ints}
-use lib.Ieee.{binary64, of_bits}
+use lib.Ieee.{of_bits}
 use Rattle.double.proofs.Fraction.{no_nan}
-use Rattle.schema.specs.Bounds.{finite_index, min_double, max_double}
+use Rattle.schema.specs.Bounds.{finite_index, lowest_index, highest_index}
+use Rattle.schema.proofs.Reading.{smallest_bits, largest_bits}
 use Rattle.schema.proofs.Ends.{schema_ends}
 use Rattle.schema.proofs.kinds.Schema.index_range.Goals as goal
-
-smallest : of_bits binary64 1 ≡ min_double
-unfolding of_bits
-smallest = refl
-
-greatest : of_bits binary64 9218868437227405311 ≡ max_double
-unfolding of_bits
-greatest = refl
 
 pub float_from_bits-finite_index : goal.float_from_bits-finite_index
 float_from_bits-finite_index c = no_nan 1 (omega arith)
@@ -25,20 +18,12 @@ pub finite_index-requires-2 : goal.finite_index-requires-2
 unfolding of_bits
 finite_index-requires-2 c = tt
 
-plus_one : (z : ℤ) → negsuc 275199 ≤ℤ z → z ≤ℤ pos 262159 → to_z w32 (of_z w32 (to_z w32 (of_z w32 z) +ℤ pos 1)) ≡ z +ℤ pos 1
-plus_one z l h = omega (arith, ints)
-
-same_back : (z : ℤ) → negsuc 275199 ≤ℤ z → z ≤ℤ pos 262159 → to_z w32 (of_z w32 z) ≡ z
-same_back z l h = omega (arith, ints)
-
 pub returns : goal.returns
 returns c =
     let s = c.args.self.value in
     let e = schema_ends s c.args.self.known in
-    let a = c.finite_index.ensures in
-    let b = c.finite_index-2.ensures in
-    record {
-      lowest = same_back c.finite_index.result a.range.0 a.range.1 ∙ a.value ∙ ap (finite_index s) smallest ∙ e.bottom;
-      highest = plus_one c.finite_index-2.result b.range.0 b.range.1 ∙ ap (λ (z : ℤ). z +ℤ pos 1) (b.value ∙ ap (finite_index s) greatest) ∙ e.top;
-      reached = record { lowest = e.bottom; highest = e.top };
-    }
+    let low : c.finite_index.result ≡ lowest_index s = c.finite_index.ensures.value ∙ ap (finite_index s) smallest_bits ∙ e.bottom in
+    let high : c.finite_index-2.result +ℤ pos 1 ≡ highest_index s = ap (λ (z : ℤ). z +ℤ pos 1) (c.finite_index-2.ensures.value ∙ ap (finite_index s) largest_bits) ∙ e.top in
+    let low_range = c.finite_index.ensures.range in
+    let high_range = c.finite_index-2.ensures.range in
+    record { lowest = omega (arith, ints); highest = omega (arith, ints); reached = record { lowest = e.bottom; highest = e.top } }
