@@ -8,12 +8,12 @@ use Rattle.double.proofs.Scale.{lift, lift_exact, lift_units, ltb_scaled, eqb_sc
 
 -- ---- what fitting a format says of m × 2^e
 
-abbrev pub odd : Format → ℕ → ℤ → Bool
-odd f m e = eqb (suc m % 2) 1 && ltb (suc m) (2 ^ prec f) && leb (down e) (2 ^ low f) && ltb (suc m * up e) (2 ^ suc (emax f) * down e)
+abbrev pub fits_test : Format → ℕ → ℤ → Bool
+fits_test f m e = eqb (suc m % 2) 1 && ltb (suc m) (2 ^ prec f) && leb (down e) (2 ^ low f) && ltb (suc m * up e) (2 ^ suc (emax f) * down e)
 
-pub fits_odd : (f : Format) (s : Bool) (m : ℕ) (e : ℤ) → T (fits f (fin s (suc m) e)) → T (odd f m e)
+pub fits_tested : (f : Format) (s : Bool) (m : ℕ) (e : ℤ) → T (fits f (fin s (suc m) e)) → T (fits_test f m e)
 unfolding fits
-fits_odd f s m e h = h
+fits_tested f s m e h = h
 
 pub fits_zero : (f : Format) (s : Bool) (e : ℤ) → T (fits f (fin s zero e)) → up e * down e ≡ 1
 unfolding fits
@@ -22,15 +22,15 @@ fits_zero f s e h = eqb→eq (up e * down e) 1 h
 -- m has at most prec digits
 pub fits_digits : (f : Format) (s : Bool) (m : ℕ) (e : ℤ) → T (fits f (fin s m e)) → m < 2 ^ prec f
 fits_digits f s zero e h = pow_pos (prec f)
-fits_digits f s (suc m) e h = ltb→lt (suc m) (2 ^ prec f) (search (and_l, and_r, fits_odd))
+fits_digits f s (suc m) e h = ltb→lt (suc m) (2 ^ prec f) (search (and_l, and_r, fits_tested))
 
 pub fits_low : (f : Format) (s : Bool) (m : ℕ) (e : ℤ) → T (fits f (fin s m e)) → down e ≤ 2 ^ low f
 fits_low f s zero e h = le_trans (le_of_eq (sym (one-mul (down e)))) (le_trans (mul-le-mul_right (down e) (up_pos e)) (le_trans (le_of_eq (fits_zero f s e h)) (pow_pos (low f))))
-fits_low f s (suc m) e h = leb→le (down e) (2 ^ low f) (search (and_l, and_r, fits_odd))
+fits_low f s (suc m) e h = leb→le (down e) (2 ^ low f) (search (and_l, and_r, fits_tested))
 
 pub fits_high : (f : Format) (s : Bool) (m : ℕ) (e : ℤ) → T (fits f (fin s m e)) → m * up e < 2 ^ suc (emax f) * down e
 fits_high f s zero e h = lt_of_le_of_lt (le_of_eq (zero-mul (up e))) (mul-pos (pow_pos (suc (emax f))) (down_pos e))
-fits_high f s (suc m) e h = ltb→lt (suc m * up e) (2 ^ suc (emax f) * down e) (search (and_l, and_r, fits_odd))
+fits_high f s (suc m) e h = ltb→lt (suc m * up e) (2 ^ suc (emax f) * down e) (search (and_l, and_r, fits_tested))
 
 -- ---- units of a finite double
 

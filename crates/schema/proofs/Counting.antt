@@ -5,7 +5,8 @@ use lib.Ieee.{Float}
 use Rattle.double.proofs.Fraction.{Normal, normal_bits, normal_lt}
 use Rattle.schema.specs.Tables.{table, entry, entry_double, rising_from, proper, TableRules}
 use Rattle.schema.specs.Bounds.{entries_below}
-use Rattle.schema.proofs.Rules.{and_left, and_right, proper_table, table_rules}
+use lib.Ieee.Fits.{and_l, and_r}
+use Rattle.schema.proofs.Rules.{proper_table, table_rules}
 
 -- how many of the numbers are below n
 abbrev pub count_below : ℕ → List ℕ → ℕ
@@ -21,7 +22,7 @@ pub record Parted (n : ℕ) (ns : List ℕ) (j : ℕ) : Type 0 where
 from_least : (n x : ℕ) (xs : List ℕ) → T (rising_from x xs) → n ≤ x → (k : ℕ) → k < length (x ∷ xs) → n ≤ get_or (x ∷ xs) k 0
 from_least n x xs h l zero g = l
 from_least n x [] h l (suc k) g = absurd (not-suc-le-zero (le_of_suc-le-suc g))
-from_least n x (y ∷ ys) h l (suc k) g = from_least n y ys (and_right (ltb x y) (rising_from y ys) h) (le_trans l (le_of_lt (ltb→lt x y (and_left (ltb x y) (rising_from y ys) h)))) k (le_of_suc-le-suc g)
+from_least n x (y ∷ ys) h l (suc k) g = from_least n y ys (and_r (ltb x y) (rising_from y ys) h) (le_trans l (le_of_lt (ltb→lt x y (and_l (ltb x y) (rising_from y ys) h)))) k (le_of_suc-le-suc g)
 
 parted_more : (n x : ℕ) (ns : List ℕ) (j : ℕ) → x < n → Parted n ns j → Parted n (x ∷ ns) (suc j)
 parted_more n x ns j l p = record { within = suc-le-suc p.within; before = before; after = after }
@@ -50,13 +51,13 @@ parted_count n (x ∷ xs) (suc j) p =
 place : (n x : ℕ) (xs : List ℕ) → T (rising_from x xs) → (j : ℕ) × Parted n (x ∷ xs) j
 place n x [] h = ⊎_elim (λ l. (1, parted_more n x [] 0 l (record { within = zero-le; before = λ k a. absurd (not-suc-le-zero a); after = λ k a b. absurd (not-suc-le-zero b) }))) (λ l. (0, record { within = zero-le; before = λ k a. absurd (not-suc-le-zero a); after = λ k a b. from_least n x [] h l k b })) (cases_lt x n)
 place n x (y ∷ ys) h =
-    let r : (j : ℕ) × Parted n (y ∷ ys) j = place n y ys (and_right (ltb x y) (rising_from y ys) h) in
+    let r : (j : ℕ) × Parted n (y ∷ ys) j = place n y ys (and_r (ltb x y) (rising_from y ys) h) in
     ⊎_elim (λ l. (suc r.0, parted_more n x (y ∷ ys) r.0 l r.1)) (λ l. (0, record { within = zero-le; before = λ k a. absurd (not-suc-le-zero a); after = λ k a b. from_least n x (y ∷ ys) h l k b })) (cases_lt x n)
 
 parted_table : (n a : ℕ) (t : List ℕ) → T (proper a t) → Parted n t (count_below n t)
 parted_table n a [] h = absurd h
 parted_table n a (x ∷ xs) h =
-    let r : (j : ℕ) × Parted n (x ∷ xs) j = place n x xs (and_right (eqb x (2 ^ 52)) (rising_from x xs) (and_left (eqb x (2 ^ 52) && rising_from x xs) (eqb (length (x ∷ xs)) (2 ^ a)) h)) in
+    let r : (j : ℕ) × Parted n (x ∷ xs) j = place n x xs (and_r (eqb x (2 ^ 52)) (rising_from x xs) (and_l (eqb x (2 ^ 52) && rising_from x xs) (eqb (length (x ∷ xs)) (2 ^ a)) h)) in
     subst (Parted n (x ∷ xs)) (sym (parted_count n (x ∷ xs) r.0 r.1)) r.1
 
 -- ---- entries as doubles

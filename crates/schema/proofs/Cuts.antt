@@ -7,7 +7,7 @@ use Rattle.std.proofs.lemmas.Bool.{cases_lt}
 use Rattle.index.specs.Index.{quotient, remainder}
 use Rattle.schema.specs.Tables.{entry, TableRules}
 use Rattle.schema.specs.Bounds.{is_schema, scaled, cut}
-use Rattle.schema.proofs.Rules.{and_right, table_rules}
+use Rattle.schema.proofs.Rules.{schema_range, table_rules}
 use Rattle.schema.proofs.Divide.{remainder_lt, quotient_of, remainder_of, divided, next_multiple, twice_multiple, twice_product}
 use Rattle.schema.proofs.Scaled.{scaled_shift, scaled_mono}
 
@@ -76,7 +76,7 @@ pub climb : (f : ℤ → ℕ) → ((i : ℤ) → f i ≤ f (i +ℤ pos 1)) → (
 climb f h i j l = let d = distance i j l in le_trans (climbs f h d.0 i) (le_of_eq (ap f (sym d.1)))
 
 pub schema_fine : (a : ℕ) → T (is_schema (pos a)) → a ≤ 8
-schema_fine a h = leb→le a 8 (and_right (le_z (negsuc 3) (pos a)) (le_z (pos a) (pos 8)) h)
+schema_fine a h = let r = schema_range (pos a) h in omega (arith, ints)
 
 pub rises : (s i : ℤ) → T (is_schema s) → cut s i ≤ cut s (i +ℤ pos 1)
 rises (pos a) i h = fine_rises a i (schema_fine a h)

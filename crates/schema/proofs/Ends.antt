@@ -7,7 +7,7 @@ use lib.Ieee.{size, lt, of_bits}
 use Rattle.index.specs.Index.{in_index_range}
 use Rattle.schema.specs.Tables.{tables}
 use Rattle.schema.specs.Bounds.{is_schema, cut, finite_index, max_double, min_double, lowest_index, highest_index}
-use Rattle.schema.proofs.Rules.{and_left, and_right}
+use lib.Ieee.Fits.{and_l, and_r}
 
 -- ---- a test of every schema
 
@@ -21,15 +21,15 @@ all_at f zero h k l = subst (λ (j : ℕ). T (f j)) (none k l) h
   where
     none : (k : ℕ) → k ≤ 0 → 0 ≡ k
     none k l = omega arith
-all_at f (suc n) h k l = elim (le-suc_iff.0 l) [ inl g ↦ all_at f n (and_right (f (suc n)) (all_to f n) h) k g | inr e ↦ subst (λ (j : ℕ). T (f j)) (sym e) (and_left (f (suc n)) (all_to f n) h) ]
+all_at f (suc n) h k l = elim (le-suc_iff.0 l) [ inl g ↦ all_at f n (and_r (f (suc n)) (all_to f n) h) k g | inr e ↦ subst (λ (j : ℕ). T (f j)) (sym e) (and_l (f (suc n)) (all_to f n) h) ]
 
 every_schema : (f : ℤ → Bool) → Bool
 every_schema f = all_to (λ a. f (pos a)) 8 && all_to (λ b. f (negsuc b)) 3
 
 at_schema : (f : ℤ → Bool) → T (every_schema f) → (s : ℤ) → T (is_schema s) → T (f s)
 unfolding every_schema
-at_schema f h (pos a) k = all_at (λ a. f (pos a)) 8 (and_left (all_to (λ a. f (pos a)) 8) (all_to (λ b. f (negsuc b)) 3) h) a (leb→le a 8 (and_right (le_z (negsuc 3) (pos a)) (le_z (pos a) (pos 8)) k))
-at_schema f h (negsuc b) k = all_at (λ b. f (negsuc b)) 3 (and_right (all_to (λ a. f (pos a)) 8) (all_to (λ b. f (negsuc b)) 3) h) b (leb→le b 3 (and_left (le_z (negsuc 3) (negsuc b)) (le_z (negsuc b) (pos 8)) k))
+at_schema f h (pos a) k = all_at (λ a. f (pos a)) 8 (and_l (all_to (λ a. f (pos a)) 8) (all_to (λ b. f (negsuc b)) 3) h) a (leb→le a 8 (and_r (le_z (negsuc 3) (pos a)) (le_z (pos a) (pos 8)) k))
+at_schema f h (negsuc b) k = all_at (λ b. f (negsuc b)) 3 (and_r (all_to (λ a. f (pos a)) 8) (all_to (λ b. f (negsuc b)) 3) h) b (leb→le b 3 (and_l (le_z (negsuc 3) (negsuc b)) (le_z (negsuc b) (pos 8)) k))
 
 -- ---- the ends
 
@@ -39,9 +39,7 @@ same i j = le_z i j && le_z j i
 same_is : (i j : ℤ) → T (same i j) → i ≡ j
 unfolding same
 same_is i j h =
-    let l : i ≤ℤ j = record { le = and_left (le_z i j) (le_z j i) h } in
-    let g : j ≤ℤ i = record { le = and_right (le_z i j) (le_z j i) h } in
-    omega (arith, ints)
+    grind (arith, ints)
 
 pub record Ends (s : ℤ) : Type 0 where
   pub top : finite_index s max_double +ℤ pos 1 ≡ highest_index s

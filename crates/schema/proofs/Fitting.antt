@@ -6,8 +6,7 @@ use lib.Ieee.{Float, le}
 use Rattle.std.proofs.lemmas.Int.{by_lt_z}
 use Rattle.schema.specs.Bounds.{is_schema}
 use Rattle.schema.specs.Factor.{growth, first_from, schema_for, Smallest}
-use Rattle.schema.proofs.Rules.{and_left}
-use Rattle.schema.proofs.Laws.{both}
+use Rattle.schema.proofs.Rules.{schema_range, schema_within}
 
 -- the schema that is found from s on
 abbrev pub fitting_from : ℤ → Float → ℤ
@@ -67,13 +66,10 @@ first_is (suc n) s f = go (le (growth s) f) refl (first_is n (s +ℤ pos 1) f)
 
 pub schema_smallest : (f : Float) → Smallest f (schema_for f)
 unfolding schema_for
-schema_smallest f = record { known = known (first_from 12 (negsuc 3) f) r.from r.upto; fitting = r.fitting; least = λ t h g. r.least t (record { le = and_left (le_z (negsuc 3) t) (le_z t (pos 8)) h }) g }
+schema_smallest f = record { known = schema_within (first_from 12 (negsuc 3) f) r.from r.upto; fitting = r.fitting; least = λ t h g. r.least t (schema_range t h).0 g }
   where
     r : First 12 (negsuc 3) f (first_from 12 (negsuc 3) f)
     r = first_is 12 (negsuc 3) f
-
-    known : (x : ℤ) → negsuc 3 ≤ℤ x → x ≤ℤ pos 8 → T (is_schema x)
-    known x l h = both (le_z (negsuc 3) x) (le_z x (pos 8)) l.le h.le
 
 pub begins : (f : Float) → schema_for f ≡ fitting_from (negsuc 3) f
 unfolding schema_for

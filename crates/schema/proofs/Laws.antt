@@ -3,7 +3,7 @@ use Rattle.std.proofs.Common.{◌≡◌, ℕ, zero, suc, ◌+◌, ◌*◌, ◌^�
 use borrow.Author.Differences.{ints}
 use lib.Signed.{le_z}
 use lib.Ieee.{Float, nan, inf, fin, binary64, fits, is_nan, le, up, down}
-use lib.Ieee.Fits.{down_pos}
+use lib.Ieee.Fits.{down_pos, and_i, and_l, and_r}
 use Rattle.std.proofs.lemmas.Int.{by_lt_z}
 use Rattle.index.specs.Index.{halved, in_index_range}
 use Rattle.index.proofs.Halving.{halves}
@@ -12,14 +12,9 @@ use Rattle.double.proofs.Order.{units_under}
 use Rattle.double.proofs.Largest.{units_infinite, largest_number, largest_magnitude, largest_within, le_largest, lt_largest}
 use Rattle.schema.specs.Bounds.{is_schema, base, power, cut, bound, Largest, index, nonzero, in_bucket, OnlyBucket, lowest_index, highest_index}
 use Rattle.schema.specs.Laws.{Ranged}
-use Rattle.schema.proofs.Rules.{and_left, and_right}
 use Rattle.schema.proofs.Cuts.{cut_mono, rises, nested}
 use Rattle.schema.proofs.Buckets.{Lies, finite_lies}
 use Rattle.schema.proofs.Ends.{Ends, schema_ends}
-
-pub both : (a b : Bool) → T a → T b → T (a && b)
-both true b p q = q
-both false b p q = p
 
 -- ---- every number
 
@@ -69,10 +64,10 @@ only_bucket s v h f g =
     let k = number_of v f g in
     let l = number_lies s v h f g in
     record {
-      here = subst T (sym (bucket_is s (index s v) v k)) (both _ _ (lt→ltb _ _ l.above) (le→leb _ _ l.within));
+      here = subst T (sym (bucket_is s (index s v) v k)) (and_i _ _ (lt→ltb _ _ l.above) (le→leb _ _ l.within));
       only = λ j t.
           let b : T (ltb (cut s (j -ℤ pos 1)) (units v) && leb (units v) (cut s j)) = subst T (bucket_is s j v k) t in
-          lies_only s j (index s v) (units v) h (record { above = ltb→lt _ _ (and_left _ _ b); within = leb→le _ _ (and_right _ _ b) }) l;
+          lies_only s j (index s v) (units v) h (record { above = ltb→lt _ _ (and_l _ _ b); within = leb→le _ _ (and_r _ _ b) }) l;
     }
 
 -- ---- a coarser schema
@@ -123,12 +118,7 @@ index_ranged s v h f g = record { low = low; high = high; inside = between (lowe
         (λ b. b)
 
     between : (a i b : ℤ) → a ≤ℤ i → i ≤ℤ b → T (in_index_range a) → T (in_index_range b) → T (in_index_range i)
-    between a i b p q x y =
-        let la : negsuc 274943 ≤ℤ a = record { le = and_left (le_z (negsuc 274943) a) (le_z a (pos 262145)) x } in
-        let hb : b ≤ℤ pos 262145 = record { le = and_right (le_z (negsuc 274943) b) (le_z b (pos 262145)) y } in
-        let li : negsuc 274943 ≤ℤ i = omega (arith, ints) in
-        let hi : i ≤ℤ pos 262145 = omega (arith, ints) in
-        both (le_z (negsuc 274943) i) (le_z i (pos 262145)) li.le hi.le
+    between a i b p q x y = grind (arith, ints)
 
 -- ---- the bound is the largest double at most the exact one
 

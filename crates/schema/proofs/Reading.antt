@@ -9,7 +9,7 @@ use Rattle.index.specs.Index.{quotient, remainder}
 use Rattle.double.proofs.Fraction.{normal_bits}
 use Rattle.schema.specs.Tables.{table, entry, entry_double, doubles}
 use Rattle.schema.specs.Bounds.{scaled, cut, is_schema, table_index, finite_index, min_double, max_double}
-use Rattle.schema.proofs.Rules.{and_left, and_right, table_rules}
+use Rattle.schema.proofs.Rules.{and_l, and_r, table_rules}
 use Rattle.schema.proofs.Counting.{full_table}
 use Rattle.schema.proofs.Scaled.{scaled_shift}
 use Rattle.schema.proofs.Search.{get_or_doubles}

@@ -1,16 +1,9 @@
 -- The tables' rules at each entry, from the one test of all nine tables.
 use Rattle.std.proofs.Common.{◌≡◌, ℕ, zero, suc, ◌+◌, ◌-◌, ◌*◌, ◌^◌, ◌<◌, ◌≤◌, Bool, true, false, ◌&&◌, T, eqb, ltb, List, [], ◌∷◌, length, get_or, ℤ, pos, negsuc, ◌≤ℤ◌, sym, refl, ap, ◌∙◌, subst, lt_trans, le_of_eq, lt_of_lt_of_le, le_of_suc-le-suc, not-suc-le-zero, add-zero, zero-add, add-one, arith, eqb→eq, ltb→lt}
 use borrow.Author.Differences.{ints}
+use lib.Ieee.Fits.{and_l, and_r}
 use Rattle.schema.specs.Bounds.{is_schema}
 use Rattle.schema.specs.Tables.{tables, table, rising_from, proper, thins, thins_next, lawful_from, TableRules}
-
-pub and_left : (a b : Bool) → T (a && b) → T a
-and_left true b h = tt
-and_left false b h = h
-
-pub and_right : (a b : Bool) → T (a && b) → T b
-and_right true b h = h
-and_right false b h = absurd h
 
 -- ---- a schema's number
 
@@ -24,22 +17,22 @@ schema_within s l h = grind (arith, ints)
 
 rising_at : (x : ℕ) (xs : List ℕ) → T (rising_from x xs) → (j : ℕ) → j < length xs → get_or (x ∷ xs) j 0 < get_or xs j 0
 rising_at x [] h j g = absurd (not-suc-le-zero g)
-rising_at x (y ∷ ys) h zero g = ltb→lt x y (and_left (ltb x y) (rising_from y ys) h)
-rising_at x (y ∷ ys) h (suc j) g = rising_at y ys (and_right (ltb x y) (rising_from y ys) h) j (le_of_suc-le-suc g)
+rising_at x (y ∷ ys) h zero g = ltb→lt x y (and_l (ltb x y) (rising_from y ys) h)
+rising_at x (y ∷ ys) h (suc j) g = rising_at y ys (and_r (ltb x y) (rising_from y ys) h) j (le_of_suc-le-suc g)
 
 rising_below : (x : ℕ) (xs : List ℕ) → T (rising_from x xs) → (j : ℕ) → j < suc (length xs) → get_or (x ∷ xs) j 0 < 2 ^ 53
 rising_below x [] h zero g = ltb→lt x (2 ^ 53) h
 rising_below x [] h (suc j) g = absurd (not-suc-le-zero (le_of_suc-le-suc g))
-rising_below x (y ∷ ys) h zero g = lt_trans (ltb→lt x y (and_left (ltb x y) (rising_from y ys) h)) (rising_below y ys (and_right (ltb x y) (rising_from y ys) h) zero (omega arith))
-rising_below x (y ∷ ys) h (suc j) g = rising_below y ys (and_right (ltb x y) (rising_from y ys) h) j (le_of_suc-le-suc g)
+rising_below x (y ∷ ys) h zero g = lt_trans (ltb→lt x y (and_l (ltb x y) (rising_from y ys) h)) (rising_below y ys (and_r (ltb x y) (rising_from y ys) h) zero (omega arith))
+rising_below x (y ∷ ys) h (suc j) g = rising_below y ys (and_r (ltb x y) (rising_from y ys) h) j (le_of_suc-le-suc g)
 
 thins_at : (us zs : List ℕ) → T (thins us zs) → (j : ℕ) → get_or us (2 * j) 0 ≡ get_or zs j 0
 thins_at [] [] h j = refl
 thins_at [] (z ∷ zs) h j = absurd h
 thins_at (x ∷ []) zs h j = absurd h
 thins_at (x ∷ (y ∷ xs)) [] h j = absurd h
-thins_at (x ∷ (y ∷ xs)) (z ∷ zs) h zero = eqb→eq x z (and_left (eqb x z) (thins xs zs) h)
-thins_at (x ∷ (y ∷ xs)) (z ∷ zs) h (suc j) = ap (λ (k : ℕ). get_or (x ∷ (y ∷ xs)) k 0) (twice j) ∙ thins_at xs zs (and_right (eqb x z) (thins xs zs) h) j
+thins_at (x ∷ (y ∷ xs)) (z ∷ zs) h zero = eqb→eq x z (and_l (eqb x z) (thins xs zs) h)
+thins_at (x ∷ (y ∷ xs)) (z ∷ zs) h (suc j) = ap (λ (k : ℕ). get_or (x ∷ (y ∷ xs)) k 0) (twice j) ∙ thins_at xs zs (and_r (eqb x z) (thins xs zs) h) j
   where
     twice : (j : ℕ) → 2 * suc j ≡ suc (suc (2 * j))
     twice j = omega arith
@@ -58,17 +51,17 @@ proper_rules : (a : ℕ) (t : List ℕ) (ts : List (List ℕ)) → T (proper a t
 proper_rules a [] ts h g = absurd h
 proper_rules a (x ∷ xs) ts h g = record {
   long = long;
-  first = eqb→eq x (2 ^ 52) (and_left _ _ (and_left _ _ h));
+  first = eqb→eq x (2 ^ 52) (and_l _ _ (and_l _ _ h));
   below_one = λ j k. rising_below x xs rise j (lt_of_lt_of_le k (le_of_eq (sym long)));
   rises = λ j k. subst (λ (n : ℕ). get_or (x ∷ xs) j 0 < get_or (x ∷ xs) n 0) (sym (add-one j)) (rising_at x xs rise j (within j (length xs) (lt_of_lt_of_le k (le_of_eq (sym long)))));
   nested = next ts g;
 }
   where
     long : length (x ∷ xs) ≡ 2 ^ a
-    long = eqb→eq (length (x ∷ xs)) (2 ^ a) (and_right (eqb x (2 ^ 52) && rising_from x xs) (eqb (length (x ∷ xs)) (2 ^ a)) h)
+    long = eqb→eq (length (x ∷ xs)) (2 ^ a) (and_r (eqb x (2 ^ 52) && rising_from x xs) (eqb (length (x ∷ xs)) (2 ^ a)) h)
 
     rise : T (rising_from x xs)
-    rise = and_right (eqb x (2 ^ 52)) (rising_from x xs) (and_left (eqb x (2 ^ 52) && rising_from x xs) (eqb (length (x ∷ xs)) (2 ^ a)) h)
+    rise = and_r (eqb x (2 ^ 52)) (rising_from x xs) (and_l (eqb x (2 ^ 52) && rising_from x xs) (eqb (length (x ∷ xs)) (2 ^ a)) h)
 
     within : (j n : ℕ) → j + 1 < suc n → j < n
     within j n h = omega arith
@@ -81,13 +74,13 @@ rules_from : (a : ℕ) (ts : List (List ℕ)) → T (lawful_from a ts) → (k : 
 rules_from a [] h k g = absurd (not-suc-le-zero g)
 rules_from a (t ∷ ts) h zero g =
     subst (λ (b : ℕ). Rules b t (get_or ts 0 []) (suc (length ts) - 1)) (sym (add-zero a))
-    (subst (Rules a t (get_or ts 0 [])) (sym (rest (length ts))) (proper_rules a t ts (and_left (proper a t) (thins_next ts t) (and_left _ (lawful_from (suc a) ts) h)) (and_right (proper a t) (thins_next ts t) (and_left _ (lawful_from (suc a) ts) h))))
+    (subst (Rules a t (get_or ts 0 [])) (sym (rest (length ts))) (proper_rules a t ts (and_l (proper a t) (thins_next ts t) (and_l _ (lawful_from (suc a) ts) h)) (and_r (proper a t) (thins_next ts t) (and_l _ (lawful_from (suc a) ts) h))))
   where
     rest : (n : ℕ) → suc n - 1 ≡ n
     rest n = omega arith
 rules_from a (t ∷ ts) h (suc k) g =
     subst (λ (b : ℕ). Rules b (get_or ts k []) (get_or ts (suc k) []) (suc (length ts) - suc (suc k))) (over a k)
-    (subst (Rules (suc a + k) (get_or ts k []) (get_or ts (suc k) [])) (sym (rest (length ts) k)) (rules_from (suc a) ts (and_right (proper a t && thins_next ts t) (lawful_from (suc a) ts) h) k (le_of_suc-le-suc g)))
+    (subst (Rules (suc a + k) (get_or ts k []) (get_or ts (suc k) [])) (sym (rest (length ts) k)) (rules_from (suc a) ts (and_r (proper a t && thins_next ts t) (lawful_from (suc a) ts) h) k (le_of_suc-le-suc g)))
   where
     rest : (n k : ℕ) → suc n - suc (suc k) ≡ n - suc k
     rest n k = omega arith
@@ -97,8 +90,8 @@ rules_from a (t ∷ ts) h (suc k) g =
 
 proper_from : (a : ℕ) (ts : List (List ℕ)) → T (lawful_from a ts) → (k : ℕ) → k < length ts → T (proper (a + k) (get_or ts k []))
 proper_from a [] h k g = absurd (not-suc-le-zero g)
-proper_from a (t ∷ ts) h zero g = subst (λ (b : ℕ). T (proper b t)) (sym (add-zero a)) (and_left (proper a t) (thins_next ts t) (and_left _ (lawful_from (suc a) ts) h))
-proper_from a (t ∷ ts) h (suc k) g = subst (λ (b : ℕ). T (proper b (get_or ts k []))) (over a k) (proper_from (suc a) ts (and_right (proper a t && thins_next ts t) (lawful_from (suc a) ts) h) k (le_of_suc-le-suc g))
+proper_from a (t ∷ ts) h zero g = subst (λ (b : ℕ). T (proper b t)) (sym (add-zero a)) (and_l (proper a t) (thins_next ts t) (and_l _ (lawful_from (suc a) ts) h))
+proper_from a (t ∷ ts) h (suc k) g = subst (λ (b : ℕ). T (proper b (get_or ts k []))) (over a k) (proper_from (suc a) ts (and_r (proper a t && thins_next ts t) (lawful_from (suc a) ts) h) k (le_of_suc-le-suc g))
   where
     over : (a k : ℕ) → suc a + k ≡ a + suc k
     over a k = omega arith

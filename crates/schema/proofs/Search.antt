@@ -21,14 +21,6 @@ get_or_doubles [] k d h = absurd (not-suc-le-zero h)
 get_or_doubles (n ∷ ns) zero d h = refl
 get_or_doubles (n ∷ ns) (suc k) d h = get_or_doubles ns k d (le_of_suc-le-suc h)
 
--- 2^53 times a fraction
-unfoldable pub numerator : Float → ℕ
-numerator f = units f / 2 ^ 1021
-
-pub numerator_is : (f : Float) (n : ℕ) → Normal f n → numerator f ≡ n
-unfolding numerator
-numerator_is f n p = ap (λ (u : ℕ). u / 2 ^ 1021) p.whole ∙ mul-div_cancel n (pow_pos 1021)
-
 -- ---- the order of the entries
 
 entry_order : (a i j : ℕ) → a ≤ 8 → i ≤ j → j < 2 ^ a → entry a i ≤ entry a j
@@ -70,14 +62,6 @@ place_counts a bs f n j e long known p h q =
 
     compared : (k : ℕ) → k < 2 ^ a → ltb (entry a k) n ≡ lt (get_or bs k nan) f
     compared k l = sym (ap (λ (xs : List Float). lt (get_or xs k nan) f) e ∙ tested a f n k nan known p l)
-
--- ---- at a program's variables
-
-pub normal_own : (v f : Float) → f ≡ fraction v → T (fits binary64 v) → T (finite_nonzero v) → Normal f (numerator f)
-normal_own v f e h g =
-    let t = split_normal v h g in
-    let p : Normal f t.n = subst (λ (x : Float). Normal x t.n) (sym e) t.normal in
-    subst (Normal f) (sym (numerator_is f t.n p)) p
 
 pub few_entries : (a : ℕ) → a ≤ 8 → 2 ^ a ≤ 256
 few_entries a h = pow_mono {j = 8} h

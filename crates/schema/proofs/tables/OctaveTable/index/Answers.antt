@@ -1,13 +1,14 @@
-use Rattle.std.proofs.Common.{◌≡◌, ℕ, ap₂, ◌^◌, ◌≤◌, ℤ, pos, negsuc, ◌+ℤ◌, ◌-ℤ◌, ◌*ℤ◌, ◌≤ℤ◌, ap, ◌∙◌, sym, lit<, arith, rules, w32, SFits, to_z, of_z}
+use Rattle.std.proofs.Common.{◌≡◌, ℕ, ap₂, ◌^◌, ◌≤◌, ℤ, pos, negsuc, ◌+ℤ◌, ◌-ℤ◌, ◌*ℤ◌, ◌≤ℤ◌, ap, ◌∙◌, sym, subst, lit<, arith, rules, w32, SFits, to_z, of_z}
 use borrow.Author.Differences.{ints}
 use Rattle.std.proofs.lemmas.List.Sorted.{IsPartitionPoint-from_clause}
 use Rattle.std.proofs.lemmas.Int.{fits_signed_mul}
 use lib.Ieee.{Float, lt}
 use Rattle.double.proofs.Shape.{passes}
+use Rattle.double.proofs.Fraction.{Normal, split_normal}
 use Rattle.schema.specs.Bounds.{entries_below}
 use Rattle.schema.specs.Tables.{table}
 use Rattle.schema.proofs.Divide.{product_range}
-use Rattle.schema.proofs.Search.{numerator, normal_own, below_first, place_counts, few_entries}
+use Rattle.schema.proofs.Search.{below_first, place_counts, few_entries}
 use Rattle.schema.proofs.tables.OctaveTable.index.Goals as goal
 
 count_is : (b : ℤ) (d : ℕ) → b ≡ pos d → d ≤ 256 → to_z w32 (of_z w32 b) ≡ pos d
@@ -54,9 +55,10 @@ returns c =
     let e = c.entries.ensures in
     let x = c.frexp-fraction.ensures in
     let f = c.frexp-fraction.result.0 in
-    let p = normal_own c.args.v f (ap (λ (p : Float × ℤ). p.0) x.value) (passes _ c.well_formed.1.0.1) c.requires in
-    let point = IsPartitionPoint-from_clause (λ x. lt x f) _ _ c.partition_point-place.ensures.partitioned (below_first a _ f (numerator f) e.value e.long known p) (λ a r q k. search rules) in
-    let counted : entries_below f (table a) ≡ place = place_counts a _ f (numerator f) place e.value e.long known p c.partition_point-place.ensures.bound point in
+    let t = split_normal c.args.v (passes _ c.well_formed.1.0.1) c.requires in
+    let p = subst (λ (y : Float). Normal y t.n) (sym (ap (λ (p : Float × ℤ). p.0) x.value)) t.normal in
+    let point = IsPartitionPoint-from_clause (λ x. lt x f) _ _ c.partition_point-place.ensures.partitioned (below_first a _ f t.n e.value e.long known p) (λ a r q k. search rules) in
+    let counted : entries_below f (table a) ≡ place = place_counts a _ f t.n place e.value e.long known p c.partition_point-place.ensures.bound point in
     let few = few_entries a known in
     let within : place ≤ 2 ^ a = omega arith in
     record {
