@@ -1,8 +1,7 @@
 -- Bounds in whole units: where one stands, that they rise, and that a coarser schema has every other one.
-use Rattle.std.proofs.Common.{◌≡◌, ℕ, zero, suc, ◌+◌, ◌*◌, ◌^◌, ◌<◌, ◌≤◌, T, ℤ, pos, negsuc, ◌+ℤ◌, ◌-ℤ◌, ◌*ℤ◌, nat_abs, ◌≤ℤ◌, sym, refl, ap, ◌∙◌, subst, ap₂, ⊎_elim, zero-le, le_trans, le_of_eq, lt_of_lt_of_le, le_of_lt, add-one, arith, leb→le, pow_pos}
+use Rattle.std.proofs.Common.{◌≡◌, ℕ, zero, suc, ◌+◌, ◌*◌, ◌^◌, ◌<◌, ◌≤◌, T, ℤ, pos, negsuc, ◌+ℤ◌, ◌-ℤ◌, ◌*ℤ◌, nat_abs, ◌≤ℤ◌, sym, refl, ap, ◌∙◌, subst, ap₂, ⊎_elim, zero-le, le_trans, le_of_eq, lt_of_lt_of_le, le_of_lt, add-one, arith, pow_pos}
 use native.Mathlib.Nat.{pow-succ'}
 use borrow.Author.Differences.{ints}
-use lib.Signed.{le_z}
 use Rattle.std.proofs.lemmas.Bool.{cases_lt}
 use Rattle.index.specs.Index.{quotient, remainder}
 use Rattle.schema.specs.Tables.{entry, TableRules}

@@ -1,5 +1,5 @@
 -- What is computed at each of the thirteen schemas: the ends of the range of indices.
-use Rattle.std.proofs.Common.{◌≡◌, ℕ, zero, suc, ◌^◌, ◌<◌, ◌≤◌, Bool, ◌&&◌, T, eqb, ltb, leb, ℤ, pos, negsuc, ◌+ℤ◌, ◌-ℤ◌, ◌≤ℤ◌, sym, subst, inl, inr, arith, eqb→eq, ltb→lt, leb→le}
+use Rattle.std.proofs.Common.{◌≡◌, ℕ, zero, suc, ◌^◌, ◌<◌, ◌≤◌, Bool, ◌&&◌, T, eqb, ltb, leb, ℤ, pos, negsuc, ◌+ℤ◌, ◌-ℤ◌, sym, subst, inl, inr, arith, eqb→eq, ltb→lt, leb→le}
 use native.Mathlib.Nat.{le-suc_iff}
 use borrow.Author.Differences.{ints}
 use lib.Signed.{le_z}

@@ -1,10 +1,8 @@
 -- The first schema whose growth is at most a factor is the smallest such.
 use Rattle.std.proofs.Common.{◌≡◌, ℕ, zero, suc, Bool, true, false, cond, not, T, ◌⊎◌, ℤ, pos, negsuc, ◌+ℤ◌, ◌-ℤ◌, nat_abs, ◌≤ℤ◌, ◌<ℤ◌, sym, refl, ap, ◌∙◌, subst, inl, inr, arith}
 use borrow.Author.Differences.{ints}
-use lib.Signed.{le_z}
 use lib.Ieee.{Float, le}
 use Rattle.std.proofs.lemmas.Int.{by_lt_z}
-use Rattle.schema.specs.Bounds.{is_schema}
 use Rattle.schema.specs.Factor.{growth, first_from, schema_for, Smallest}
 use Rattle.schema.proofs.Rules.{schema_range, schema_within}
 

@@ -1,7 +1,6 @@
 -- Every number other than zero lies in the bucket of its index, and in no other; a coarser schema halves the index; the range of indices.
-use Rattle.std.proofs.Common.{◌≡◌, ℕ, zero, suc, ◌+◌, ◌*◌, ◌^◌, ◌<◌, ◌≤◌, Bool, true, false, ◌&&◌, T, ltb, leb, ℤ, pos, negsuc, ◌+ℤ◌, ◌-ℤ◌, ◌≤ℤ◌, ◌<ℤ◌, sym, ap, subst, ap₂, le_trans, le_of_eq, lt_of_lt_of_le, not-suc-le-zero, lt_of_le_of_lt, lt_irrefl, le-div_iff_mul-le, arith, le→leb, ltb→lt, lt→ltb, leb→le}
+use Rattle.std.proofs.Common.{◌≡◌, ℕ, zero, suc, ◌+◌, ◌*◌, ◌^◌, ◌<◌, ◌≤◌, Bool, ◌&&◌, T, ltb, leb, ℤ, pos, ◌+ℤ◌, ◌-ℤ◌, ◌≤ℤ◌, ◌<ℤ◌, sym, ap, subst, ap₂, le_trans, le_of_eq, lt_of_lt_of_le, not-suc-le-zero, lt_of_le_of_lt, lt_irrefl, le-div_iff_mul-le, arith, le→leb, ltb→lt, lt→ltb, leb→le}
 use borrow.Author.Differences.{ints}
-use lib.Signed.{le_z}
 use lib.Ieee.{Float, nan, inf, fin, binary64, fits, is_nan, le, up, down}
 use lib.Ieee.Fits.{down_pos, and_i, and_l, and_r}
 use Rattle.std.proofs.lemmas.Int.{by_lt_z}

@@ -1,15 +1,14 @@
 -- What the program reads of a table and of an index, as the definitions have it.
-use Rattle.std.proofs.Common.{◌≡◌, ℕ, zero, suc, ◌+◌, ◌-◌, ◌*◌, ◌^◌, ◌<◌, ◌≤◌, true, false, not, T, List, get_or, ℤ, pos, negsuc, ◌+ℤ◌, ◌-ℤ◌, ◌*ℤ◌, neg_ℤ, nat_abs, ◌≤ℤ◌, sym, refl, ap, ◌∙◌, subst, le_of_eq, lt_of_lt_of_le, mul-le-mul, div-le_self, arith, pow_mono, w8, SFits, to_z, of_z}
+use Rattle.std.proofs.Common.{◌≡◌, ℕ, zero, suc, ◌+◌, ◌-◌, ◌*◌, ◌^◌, ◌<◌, ◌≤◌, not, T, List, get_or, ℤ, pos, negsuc, ◌+ℤ◌, ◌*ℤ◌, neg_ℤ, sym, refl, ap, ◌∙◌, subst, le_of_eq, lt_of_lt_of_le, arith, pow_mono}
 use borrow.Author.Differences.{ints}
-use lib.Signed.{le_z}
 use lib.Ieee.{Float, nan, binary64, is_nan, to_bits, of_bits}
 use lib.Ieee.Bits.{to_bits-of_bits}
-use Rattle.std.specs.Int.{int_div_euclid, int_rem_euclid}
+use Rattle.std.specs.Int.{int_div_euclid}
 use Rattle.index.specs.Index.{quotient, remainder}
 use Rattle.double.proofs.Fraction.{normal_bits}
 use Rattle.schema.specs.Tables.{table, entry, entry_double, doubles}
-use Rattle.schema.specs.Bounds.{scaled, cut, is_schema, table_index, finite_index, min_double, max_double}
-use Rattle.schema.proofs.Rules.{and_l, and_r, table_rules}
+use Rattle.schema.specs.Bounds.{scaled, cut, table_index, finite_index, min_double, max_double}
+use Rattle.schema.proofs.Rules.{table_rules}
 use Rattle.schema.proofs.Counting.{full_table}
 use Rattle.schema.proofs.Scaled.{scaled_shift}
 use Rattle.schema.proofs.Search.{get_or_doubles}

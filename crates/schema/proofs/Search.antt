@@ -1,12 +1,10 @@
 -- The search of a table: what is known of the entries outside the part that is left.
-use Rattle.std.proofs.Common.{◌≡◌, ℕ, zero, suc, ◌+◌, ◌-◌, ◌/◌, ◌^◌, ◌<◌, ◌≤◌, T, ltb, List, [], ◌∷◌, length, get_or, ℤ, pos, negsuc, ◌*ℤ◌, ◌≤ℤ◌, sym, refl, ap, ◌∙◌, subst, le_trans, le_of_eq, le_refl, lt_of_lt_of_le, le_of_suc-le-suc, not-suc-le-zero, lt_of_le_of_lt, le_of_lt, zero-le, le_antisymm, ⊎_elim, Bool, true, false, ltb-true, ltb-false, lt-ltb, mul-le-mul, suc-add, zero-add, mul-div_cancel, add-one, arith, pow_pos, pow_mono}
-use lib.Ieee.{Float, nan, lt, fits, binary64}
+use Rattle.std.proofs.Common.{◌≡◌, ℕ, zero, suc, ◌^◌, ◌<◌, ◌≤◌, ltb, List, [], ◌∷◌, length, get_or, sym, refl, ap, ◌∙◌, le_trans, le_of_eq, lt_of_lt_of_le, le_of_suc-le-suc, not-suc-le-zero, lt_of_le_of_lt, le_of_lt, zero-le, le_antisymm, ⊎_elim, true, false, ltb-true, ltb-false, lt-ltb, pow_mono}
+use lib.Ieee.{Float, nan, lt}
 use Rattle.std.specs.List.Sorted.{IsPartitionedBy, IsPartitionPoint}
 use Rattle.std.proofs.lemmas.List.Kept.{AllPairs-from_increasing}
 use Rattle.std.proofs.lemmas.Bool.{cases_lt}
-use borrow.Author.Differences.{ints}
-use Rattle.double.specs.Double.{units, fraction, finite_nonzero}
-use Rattle.double.proofs.Fraction.{Normal, normal_bits, normal_lt, split_normal}
+use Rattle.double.proofs.Fraction.{Normal, normal_bits, normal_lt}
 use Rattle.schema.specs.Tables.{table, entry, entry_double, doubles, TableRules}
 use Rattle.schema.specs.Bounds.{entries_below}
 use Rattle.schema.proofs.Rules.{table_rules}

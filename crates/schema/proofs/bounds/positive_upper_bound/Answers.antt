@@ -1,5 +1,4 @@
-use Rattle.std.proofs.Common.{◌≡◌, ◌∙◌, ap, subst, sym, T, ℤ, pos, ◌+ℤ◌, rules}
-use Rattle.std.proofs.lemmas.Int.{to_z-of_z}
+use Rattle.std.proofs.Common.{◌≡◌, subst, sym, T, ℤ, pos, ◌+ℤ◌, rules}
 use lib.Ieee.{Float, le}
 use Rattle.schema.specs.Bounds.{bound, Largest, is_schema}
 use Rattle.schema.proofs.Laws.{bound_largest, bound_rises}

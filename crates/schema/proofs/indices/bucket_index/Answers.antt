@@ -1,4 +1,4 @@
-use Rattle.std.proofs.Common.{◌≡◌, zero, suc, Bool, true, false, cond, not, T, ℤ, pos, negsuc, ◌+ℤ◌, ◌≤ℤ◌, Some, None, Option, sym, refl, ap, ◌∙◌, subst, arith, w32, SFits, rules, to_z, of_z}
+use Rattle.std.proofs.Common.{◌≡◌, zero, suc, Bool, true, false, cond, not, T, ℤ, pos, ◌+ℤ◌, Some, None, Option, sym, refl, ap, ◌∙◌, subst, arith, w32, SFits, rules}
 use borrow.Author.Differences.{ints}
 use borrow.Author.Tests.{clash}
 use lib.Ieee.{Float, nan, inf, fin, binary64, fits, is_nan, eq, of_bits}

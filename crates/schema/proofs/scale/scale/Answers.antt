@@ -1,6 +1,6 @@
-use Rattle.std.proofs.Common.{◌≡◌, ℕ, ◌+◌, ◌*◌, ◌%◌, ◌/◌, ◌^◌, ◌<◌, ◌≤◌, ℤ, pos, negsuc, ◌+ℤ◌, nat_abs, ◌≤ℤ◌, ap, ◌∙◌, le_trans, div-le_self, arith, w64, to_z, of_z}
+use Rattle.std.proofs.Common.{ℕ, ◌/◌, ◌^◌, pos, ◌+ℤ◌, ap, ◌∙◌, le_trans, div-le_self, arith}
 use borrow.Author.Differences.{ints}
-use lib.Ieee.{Float, binary64, of_bits}
+use lib.Ieee.{binary64, of_bits}
 use Rattle.double.proofs.Fraction.{no_nan}
 use Rattle.schema.proofs.Made.{made_huge, made_above, made_top, made_normal, made_small, made_zero}
 use Rattle.schema.proofs.scale.scale.Goals as goal

@@ -1,8 +1,6 @@
-use Rattle.std.proofs.Common.{◌≡◌, ℕ, ℤ, pos, ◌+ℤ◌, sym, ap, ◌∙◌, ap₂, w32, w64, SFits, to_z, of_z, arith, rules}
+use Rattle.std.proofs.Common.{◌≡◌, pos, ◌+ℤ◌, w32, w64, SFits, to_z, of_z, arith, rules}
 use borrow.Author.Differences.{ints}
 use Rattle.std.proofs.lemmas.Int.{to_z-of_z}
-use Rattle.double.specs.Double.{largest}
-use Rattle.schema.specs.Bounds.{scaled}
 use Rattle.schema.proofs.Reading.{cut_table}
 use Rattle.schema.proofs.tables.OctaveTable.bound.Goals as goal
 
