@@ -6,6 +6,9 @@ ghost use Rattle.std.specs.Float.{binary64};
 ghost use Rattle.std.specs.Float.Ieee.{size};
 ghost use Rattle.double.specs.Double.{fraction, exponent, finite_nonzero, units, zero_double, Splits};
 
+// The leading binary digit of a mantissa of 53.
+const LEADING_DIGIT: u64 = 1 << 52;
+
 // A magnitude other than zero: mantissa × 2^shift units of 2^-1074.
 #[derive(Clone, Copy)]
 struct Parts {
@@ -24,7 +27,7 @@ impl Parts {
     {
         let bits = v.abs().to_bits();
         let field = bits >> 52;
-        let digits = bits % 0x10_0000_0000_0000;
+        let digits = bits % LEADING_DIGIT;
         if field == 0 {
             Parts {
                 mantissa: digits,
@@ -32,7 +35,7 @@ impl Parts {
             }
         } else {
             Parts {
-                mantissa: digits + 0x10_0000_0000_0000,
+                mantissa: digits + LEADING_DIGIT,
                 shift: (field - 1) as u32,
             }
         }

@@ -17,7 +17,7 @@ pub fn in_index_range(index: i32) -> bool
     (LOWEST_INDEX..=HIGHEST_INDEX).contains(&index)
 }
 
-// The index one schema coarser: half of it, rounded up.
+// The index one schema coarser: half of it, rounded up. Signed numbers have no `div_ceil`.
 pub fn coarser_index(index: i32) -> i32
     ensures value { result ≡ halved index }
     ensures halves { Halves index result }

@@ -21,18 +21,18 @@ pub record Lies (s : ℤ) (u : ℕ) (i : ℤ) : Type 0 where
 
 -- ---- schemas from 0 up
 
+back_one : (e : ℤ) → e -ℤ pos 1 +ℤ pos 1 ≡ e
+back_one e = omega (arith, ints)
+
+again : (e : ℤ) → e -ℤ pos 1 +ℤ pos 1 +ℤ pos 1021 ≡ e +ℤ pos 1021
+again e = omega (arith, ints)
+
 module _ (a : ℕ) (h : a ≤ 8) (e : ℤ) (u n : ℕ) (x : Exactly u n (e +ℤ pos 1021)) (low : 2 ^ 52 ≤ n) (high : n < 2 ^ 53) where
   entry_above : (j : ℕ) → j < 2 ^ a → entry a j < n → cut (pos a) ((e -ℤ pos 1) *ℤ pos (2 ^ a) +ℤ pos j) < u
   entry_above j l g = lt_of_le_of_lt (le_of_eq (cut_at a (e -ℤ pos 1) j l ∙ ap (scaled (entry a j)) (again e))) (exactly_above u n (entry a j) (e +ℤ pos 1021) x g)
-    where
-      again : (e : ℤ) → e -ℤ pos 1 +ℤ pos 1 +ℤ pos 1021 ≡ e +ℤ pos 1021
-      again e = omega (arith, ints)
 
   entry_within : (j : ℕ) → j < 2 ^ a → n ≤ entry a j → u ≤ cut (pos a) ((e -ℤ pos 1) *ℤ pos (2 ^ a) +ℤ pos j)
   entry_within j l g = le_trans (exactly_within u n (entry a j) (e +ℤ pos 1021) x g) (le_of_eq (sym (cut_at a (e -ℤ pos 1) j l ∙ ap (scaled (entry a j)) (again e))))
-    where
-      again : (e : ℤ) → e -ℤ pos 1 +ℤ pos 1 +ℤ pos 1021 ≡ e +ℤ pos 1021
-      again e = omega (arith, ints)
 
   -- above every entry: in the bucket that ends at the next power of two
   octave_within : (j : ℕ) → 2 ^ a ≤ j → j ≤ 2 ^ a → u ≤ cut (pos a) ((e -ℤ pos 1) *ℤ pos (2 ^ a) +ℤ pos j)
@@ -40,10 +40,7 @@ module _ (a : ℕ) (h : a ≤ 8) (e : ℤ) (u n : ℕ) (x : Exactly u n (e +ℤ 
       le_trans (exactly_within u n (2 ^ 53) (e +ℤ pos 1021) x (le_of_lt high)) (le_of_eq (sym (ap (cut (pos a)) (whole e (2 ^ a) j l g) ∙ cut_octave a e h)))
     where
       whole : (e : ℤ) (d j : ℕ) → d ≤ j → j ≤ d → (e -ℤ pos 1) *ℤ pos d +ℤ pos j ≡ e *ℤ pos d
-      whole e d j l g = omega (arith, ints, next_multiple (e -ℤ pos 1) d, ap (λ (k : ℤ). k *ℤ pos d) (back e))
-        where
-          back : (e : ℤ) → e -ℤ pos 1 +ℤ pos 1 ≡ e
-          back e = omega (arith, ints)
+      whole e d j l g = omega (arith, ints, next_multiple (e -ℤ pos 1) d, ap (λ (k : ℤ). k *ℤ pos d) (back_one e))
 
   -- at the first entry: above the last one of the octave before
   octave_above : cut (pos a) ((e -ℤ pos 1) *ℤ pos (2 ^ a) -ℤ pos 1) < u
@@ -105,10 +102,7 @@ wide_lies b u i l = record {
     k = quotient (2 ^ suc b) (i +ℤ pos (2 ^ suc b - 1))
 
     reach : (i j : ℤ) (d r : ℕ) → 0 < d → r < d → i +ℤ pos (d - 1) ≡ j *ℤ pos d +ℤ pos r → (i ≤ℤ (j *ℤ pos d)) × (((j -ℤ pos 1) *ℤ pos d) ≤ℤ (i -ℤ pos 1))
-    reach i j d r p q e = (omega (arith, ints), omega (arith, ints, next_multiple (j -ℤ pos 1) d, ap (λ (z : ℤ). z *ℤ pos d) (back j)))
-      where
-        back : (j : ℤ) → j -ℤ pos 1 +ℤ pos 1 ≡ j
-        back j = omega (arith, ints)
+    reach i j d r p q e = (omega (arith, ints), omega (arith, ints, next_multiple (j -ℤ pos 1) d, ap (λ (z : ℤ). z *ℤ pos d) (back_one j)))
 
     reached : (i ≤ℤ (k *ℤ pos (2 ^ suc b))) × (((k -ℤ pos 1) *ℤ pos (2 ^ suc b)) ≤ℤ (i -ℤ pos 1))
     reached = reach i k (2 ^ suc b) (remainder (2 ^ suc b) (i +ℤ pos (2 ^ suc b - 1))) (pow_pos (suc b)) (remainder_lt (2 ^ suc b) (i +ℤ pos (2 ^ suc b - 1)) (pow_pos (suc b))) (divided (2 ^ suc b) (i +ℤ pos (2 ^ suc b - 1)) (pow_pos (suc b)))

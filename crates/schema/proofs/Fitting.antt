@@ -29,38 +29,17 @@ record First (n : ℕ) (s : ℤ) (f : Float) (r : ℤ) : Type 0 where
   pub least : (t : ℤ) → s ≤ℤ t → t <ℤ r → T (not (le (growth t) f))
 
 first_is : (n : ℕ) (s : ℤ) (f : Float) → First n s f (first_from n s f)
-first_is zero s f = record { from = omega (arith, ints); upto = omega (arith, ints); fitting = inl (omega (arith, ints)); least = λ t l g. absurd (never s t l g) }
+first_is zero s f = record { from = omega (arith, ints); upto = omega (arith, ints); fitting = inl (omega (arith, ints)); least = λ t l g. absurd (omega (arith, ints)) }
+first_is (suc n) s f = go (le (growth s) f) refl (first_from n (s +ℤ pos 1) f) (first_is n (s +ℤ pos 1) f)
   where
-    never : (s t : ℤ) → s ≤ℤ t → t <ℤ s → ⊥
-    never s t l g = omega (arith, ints)
-first_is (suc n) s f = go (le (growth s) f) refl (first_is n (s +ℤ pos 1) f)
-  where
-    go : (b : Bool) → le (growth s) f ≡ b → First n (s +ℤ pos 1) f (first_from n (s +ℤ pos 1) f) → First (suc n) s f (cond b s (first_from n (s +ℤ pos 1) f))
-    go true e r = record { from = omega (arith, ints); upto = omega (arith, ints); fitting = inr (subst T (sym e) tt); least = λ t l g. absurd (never s t l g) }
-      where
-        never : (s t : ℤ) → s ≤ℤ t → t <ℤ s → ⊥
-        never s t l g = omega (arith, ints)
-    go false e r = record {
-      from = under s (first_from n (s +ℤ pos 1) f) r.from;
-      upto = over s (first_from n (s +ℤ pos 1) f) r.upto;
-      fitting = elim r.fitting [ inl q ↦ inl (q ∙ same s n) | inr t ↦ inr t ];
-      least = λ t l g. by_lt_z s t (λ h. r.least t (next s t h) g) (λ h. subst (λ (x : ℤ). T (not (le (growth x) f))) (equal s t l h) (subst (λ (b : Bool). T (not b)) (sym e) tt));
+    go : (b : Bool) → le (growth s) f ≡ b → (x : ℤ) → First n (s +ℤ pos 1) f x → First (suc n) s f (cond b s x)
+    go true e x r = record { from = omega (arith, ints); upto = omega (arith, ints); fitting = inr (subst T (sym e) tt); least = λ t l g. absurd (omega (arith, ints)) }
+    go false e x r = record {
+      from = omega (arith, ints);
+      upto = omega (arith, ints);
+      fitting = elim r.fitting [ inl q ↦ inl (omega (arith, ints)) | inr t ↦ inr t ];
+      least = λ t l g. by_lt_z s t (λ h. r.least t (omega (arith, ints)) g) (λ h. let q : s ≡ t = omega (arith, ints) in subst (λ (y : ℤ). T (not (le (growth y) f))) q (subst (λ (b : Bool). T (not b)) (sym e) tt));
     }
-      where
-        under : (s r : ℤ) → (s +ℤ pos 1) ≤ℤ r → s ≤ℤ r
-        under s r h = omega (arith, ints)
-
-        over : (s r : ℤ) → r ≤ℤ (s +ℤ pos 1 +ℤ pos n) → r ≤ℤ (s +ℤ pos (suc n))
-        over s r h = omega (arith, ints)
-
-        same : (s : ℤ) (n : ℕ) → s +ℤ pos 1 +ℤ pos n ≡ s +ℤ pos (suc n)
-        same s n = omega (arith, ints)
-
-        next : (s t : ℤ) → s <ℤ t → (s +ℤ pos 1) ≤ℤ t
-        next s t h = omega (arith, ints)
-
-        equal : (s t : ℤ) → s ≤ℤ t → t ≤ℤ s → s ≡ t
-        equal s t l h = omega (arith, ints)
 
 pub schema_smallest : (f : Float) → Smallest f (schema_for f)
 unfolding schema_for

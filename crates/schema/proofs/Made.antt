@@ -9,12 +9,6 @@ use Rattle.double.proofs.Largest.{largest_infinite, largest_small}
 use Rattle.double.proofs.Fraction.{pattern_full}
 use Rattle.schema.specs.Bounds.{scaled}
 
-clashes : (k : ℕ) {P : Type 0} → pos 0 ≤ℤ negsuc k → P
-clashes k h = absurd (never k h)
-  where
-    never : (k : ℕ) → pos 0 ≤ℤ negsuc k → ⊥
-    never k h = omega (arith, ints)
-
 infinite_bits : of_bits binary64 9218868437227405312 ≡ inf false
 unfolding of_bits
 infinite_bits = refl
@@ -25,7 +19,7 @@ huge m k h g = lt_of_lt_of_le (pow-lt {i = 2098} {j = 2099} (lit≤ tt)) (le_tra
 
 pub made_huge : (m : ℕ) (x : ℤ) → 2 ^ 52 ≤ m → pos 2047 ≤ℤ x → of_bits binary64 9218868437227405312 ≡ largest (scaled m x)
 made_huge m (pos k) h g = infinite_bits ∙ sym (largest_infinite (m * 2 ^ k / 1) (huge m k h (omega (arith, ints))))
-made_huge m (negsuc k) h g = clashes k (omega (arith, ints))
+made_huge m (negsuc k) h g = absurd (omega (arith, ints))
 
 pub made_above : (m : ℕ) (x : ℤ) → 2 ^ 52 < m → x ≡ pos 2046 → of_bits binary64 9218868437227405312 ≡ largest (scaled m x)
 made_above m x h e =
@@ -47,7 +41,7 @@ made_normal m (pos k) l h g b =
     ap (of_bits binary64) (sym (pattern_full m k l h))
     ∙ sym (largest_small (m * 2 ^ k) (lt_of_lt_of_le (mul-lt-mul_of_pos_right h (pow_pos k)) (le_trans (mul-le-mul_left (2 ^ 53) (pow_mono {j = 2045} (omega (arith, ints)))) (le_of_eq (sym (pow-add 2 53 2045))))))
     ∙ ap largest (sym (div-one (m * 2 ^ k)))
-made_normal m (negsuc k) l h g b = clashes k g
+made_normal m (negsuc k) l h g b = absurd (omega (arith, ints))
 
 -- a subnormal one
 few_digits : (n : ℕ) → n < 2 ^ 53 → pattern n ≡ n
@@ -60,7 +54,7 @@ few_digits n h = ap (λ (z : ℕ). z * 2 ^ 52 + n / 2 ^ z) (none (size n) (size-
     whole n e = omega arith
 
 pub made_small : (m : ℕ) (x : ℤ) → m < 2 ^ 53 → x ≤ℤ negsuc 0 → of_bits binary64 (m / 2 ^ nat_abs x) ≡ largest (scaled m x)
-made_small m (pos k) h g = clashes 0 (omega (arith, ints))
+made_small m (pos k) h g = absurd (omega (arith, ints))
 made_small m (negsuc k) h g =
     ap (of_bits binary64) (sym (few_digits (m / 2 ^ suc k) small))
     ∙ sym (largest_small (m / 2 ^ suc k) (lt_of_lt_of_le small (pow_mono {i = 53} {j = 2098} (lit≤ tt))))
@@ -70,7 +64,7 @@ made_small m (negsuc k) h g =
     small = lt_of_le_of_lt (div-le_self m (2 ^ suc k)) h
 
 pub made_zero : (m : ℕ) (x : ℤ) → m < 2 ^ 53 → x ≤ℤ negsuc 52 → of_bits binary64 0 ≡ largest (scaled m x)
-made_zero m (pos k) h g = clashes 0 (omega (arith, ints))
+made_zero m (pos k) h g = absurd (omega (arith, ints))
 made_zero m (negsuc k) h g =
     ap (of_bits binary64) (sym nothing) ∙ made_small m (negsuc k) h (omega (arith, ints))
   where

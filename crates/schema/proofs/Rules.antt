@@ -1,5 +1,6 @@
 -- The tables' rules at each entry, from the one test of all nine tables.
-use Rattle.std.proofs.Common.{◌≡◌, ℕ, zero, suc, ◌+◌, ◌-◌, ◌*◌, ◌^◌, ◌<◌, ◌≤◌, ◌&&◌, T, eqb, ltb, List, [], ◌∷◌, length, get_or, ℤ, pos, negsuc, ◌≤ℤ◌, sym, refl, ap, ◌∙◌, subst, lt_trans, le_of_eq, lt_of_lt_of_le, le_of_suc-le-suc, not-suc-le-zero, add-zero, zero-add, add-one, arith, eqb→eq, ltb→lt}
+use Rattle.std.proofs.Common.{◌≡◌, ℕ, zero, suc, ◌+◌, ◌*◌, ◌^◌, ◌<◌, ◌≤◌, ◌&&◌, T, eqb, ltb, List, [], ◌∷◌, length, drop, length-drop, get_or, ℤ, pos, negsuc, ◌≤ℤ◌, sym, refl, ap, ◌∙◌, subst, lt_trans, le_of_eq, lt_of_lt_of_le, le_of_suc-le-suc, not-suc-le-zero, add-zero, zero-add, add-one, arith, eqb→eq, ltb→lt}
+use Rattle.std.proofs.lemmas.List.{get_or-drop}
 use borrow.Author.Differences.{ints}
 use lib.Ieee.Fits.{and_l, and_r}
 use Rattle.schema.specs.Bounds.{is_schema}
@@ -37,24 +38,23 @@ thins_at (x ∷ (y ∷ xs)) (z ∷ zs) h (suc j) = ap (λ (k : ℕ). get_or (x �
     twice : (j : ℕ) → 2 * suc j ≡ suc (suc (2 * j))
     twice j = omega arith
 
--- ---- all tables
+thins_first : (us : List (List ℕ)) (t : List ℕ) → T (thins_next us t) → 0 < length us → (j : ℕ) → get_or (get_or us 0 []) (2 * j) 0 ≡ get_or t j 0
+thins_first [] t h g j = absurd (not-suc-le-zero g)
+thins_first (u ∷ us) t h g j = thins_at u t h j
 
--- the rules of a table t of schema a, after which come some more, u first
-record Rules (a : ℕ) (t u : List ℕ) (more : ℕ) : Type 0 where
+record Proper (a : ℕ) (t : List ℕ) : Type 0 where
   pub long : length t ≡ 2 ^ a
   pub first : get_or t 0 0 ≡ 2 ^ 52
   pub below_one : (j : ℕ) → j < 2 ^ a → get_or t j 0 < 2 ^ 53
   pub rises : (j : ℕ) → j + 1 < 2 ^ a → get_or t j 0 < get_or t (j + 1) 0
-  pub nested : 0 < more → (j : ℕ) → get_or u (2 * j) 0 ≡ get_or t j 0
 
-proper_rules : (a : ℕ) (t : List ℕ) (ts : List (List ℕ)) → T (proper a t) → T (thins_next ts t) → Rules a t (get_or ts 0 []) (length ts)
-proper_rules a [] ts h g = absurd h
-proper_rules a (x ∷ xs) ts h g = record {
+proper_is : (a : ℕ) (t : List ℕ) → T (proper a t) → Proper a t
+proper_is a [] h = absurd h
+proper_is a (x ∷ xs) h = record {
   long = long;
   first = eqb→eq x (2 ^ 52) (and_l _ _ (and_l _ _ h));
   below_one = λ j k. rising_below x xs rise j (lt_of_lt_of_le k (le_of_eq (sym long)));
   rises = λ j k. subst (λ (n : ℕ). get_or (x ∷ xs) j 0 < get_or (x ∷ xs) n 0) (sym (add-one j)) (rising_at x xs rise j (within j (length xs) (lt_of_lt_of_le k (le_of_eq (sym long)))));
-  nested = next ts g;
 }
   where
     long : length (x ∷ xs) ≡ 2 ^ a
@@ -66,32 +66,20 @@ proper_rules a (x ∷ xs) ts h g = record {
     within : (j n : ℕ) → j + 1 < suc n → j < n
     within j n h = omega arith
 
-    next : (us : List (List ℕ)) → T (thins_next us (x ∷ xs)) → 0 < length us → (j : ℕ) → get_or (get_or us 0 []) (2 * j) 0 ≡ get_or (x ∷ xs) j 0
-    next [] g k j = absurd (not-suc-le-zero k)
-    next (u ∷ us) g k j = thins_at u (x ∷ xs) g j
+-- ---- all tables
 
-rules_from : (a : ℕ) (ts : List (List ℕ)) → T (lawful_from a ts) → (k : ℕ) → k < length ts → Rules (a + k) (get_or ts k []) (get_or ts (suc k) []) (length ts - suc k)
-rules_from a [] h k g = absurd (not-suc-le-zero g)
-rules_from a (t ∷ ts) h zero g =
-    subst (λ (b : ℕ). Rules b t (get_or ts 0 []) (suc (length ts) - 1)) (sym (add-zero a))
-    (subst (Rules a t (get_or ts 0 [])) (sym (rest (length ts))) (proper_rules a t ts (and_l (proper a t) (thins_next ts t) (and_l _ (lawful_from (suc a) ts) h)) (and_r (proper a t) (thins_next ts t) (and_l _ (lawful_from (suc a) ts) h))))
-  where
-    rest : (n : ℕ) → suc n - 1 ≡ n
-    rest n = omega arith
-rules_from a (t ∷ ts) h (suc k) g =
-    subst (λ (b : ℕ). Rules b (get_or ts k []) (get_or ts (suc k) []) (suc (length ts) - suc (suc k))) (over a k)
-    (subst (Rules (suc a + k) (get_or ts k []) (get_or ts (suc k) [])) (sym (rest (length ts) k)) (rules_from (suc a) ts (and_r (proper a t && thins_next ts t) (lawful_from (suc a) ts) h) k (le_of_suc-le-suc g)))
-  where
-    rest : (n k : ℕ) → suc n - suc (suc k) ≡ n - suc k
-    rest n k = omega arith
+-- what the test says of one table, after which come the rest
+record Lawful (a : ℕ) (t : List ℕ) (rest : List (List ℕ)) : Type 0 where
+  pub is_proper : T (proper a t)
+  pub thins : T (thins_next rest t)
 
-    over : (a k : ℕ) → suc a + k ≡ a + suc k
-    over a k = omega arith
-
-proper_from : (a : ℕ) (ts : List (List ℕ)) → T (lawful_from a ts) → (k : ℕ) → k < length ts → T (proper (a + k) (get_or ts k []))
-proper_from a [] h k g = absurd (not-suc-le-zero g)
-proper_from a (t ∷ ts) h zero g = subst (λ (b : ℕ). T (proper b t)) (sym (add-zero a)) (and_l (proper a t) (thins_next ts t) (and_l _ (lawful_from (suc a) ts) h))
-proper_from a (t ∷ ts) h (suc k) g = subst (λ (b : ℕ). T (proper b (get_or ts k []))) (over a k) (proper_from (suc a) ts (and_r (proper a t && thins_next ts t) (lawful_from (suc a) ts) h) k (le_of_suc-le-suc g))
+lawful_at : (a : ℕ) (ts : List (List ℕ)) → T (lawful_from a ts) → (k : ℕ) → k < length ts → Lawful (a + k) (get_or ts k []) (drop (suc k) ts)
+lawful_at a [] h k g = absurd (not-suc-le-zero g)
+lawful_at a (t ∷ ts) h zero g =
+    let r = and_l (proper a t && thins_next ts t) (lawful_from (suc a) ts) h in
+    record { is_proper = subst (λ (b : ℕ). T (proper b t)) (sym (add-zero a)) (and_l (proper a t) (thins_next ts t) r); thins = and_r (proper a t) (thins_next ts t) r }
+lawful_at a (t ∷ ts) h (suc k) g =
+    subst (λ (b : ℕ). Lawful b (get_or ts k []) (drop (suc k) ts)) (over a k) (lawful_at (suc a) ts (and_r (proper a t && thins_next ts t) (lawful_from (suc a) ts) h) k (le_of_suc-le-suc g))
   where
     over : (a k : ℕ) → suc a + k ≡ a + suc k
     over a k = omega arith
@@ -105,25 +93,22 @@ nine : length tables ≡ 9
 unfolding tables
 nine = refl
 
-pub table_rules : (a : ℕ) → a ≤ 8 → TableRules a
-table_rules a h =
-    let r : Rules (0 + a) (table a) (get_or tables (suc a) []) (length tables - suc a) = rules_from 0 tables lawful a (within (length tables) nine) in
-    record {
-      long = r.long ∙ ap (λ (b : ℕ). 2 ^ b) (zero-add a);
-      first = r.first;
-      below_one = λ j g. r.below_one j (subst (λ (b : ℕ). j < 2 ^ b) (sym (zero-add a)) g);
-      rises = λ j g. r.rises j (subst (λ (b : ℕ). j + 1 < 2 ^ b) (sym (zero-add a)) g);
-      nested = λ l j g. ap (λ (b : ℕ). get_or (get_or tables b []) (2 * j) 0) (add-one a) ∙ r.nested (some (length tables) nine l) j;
-    }
-  where
-    within : (n : ℕ) → n ≡ 9 → a < n
-    within n e = omega arith
-
-    some : (n : ℕ) → n ≡ 9 → a < 8 → 0 < n - suc a
-    some n e l = omega arith
+table_lawful : (a : ℕ) → a ≤ 8 → Lawful a (table a) (drop (suc a) tables)
+table_lawful a h = subst (λ (b : ℕ). Lawful b (table a) (drop (suc a) tables)) (zero-add a) (lawful_at 0 tables lawful a (omega (arith, nine)))
 
 pub proper_table : (a : ℕ) → a ≤ 8 → T (proper a (table a))
-proper_table a h = subst (λ (b : ℕ). T (proper b (table a))) (zero-add a) (proper_from 0 tables lawful a (within (length tables) nine))
+proper_table a h = (table_lawful a h).is_proper
+
+pub table_rules : (a : ℕ) → a ≤ 8 → TableRules a
+table_rules a h =
+    let r = proper_is a (table a) (proper_table a h) in
+    record {
+      long = r.long;
+      first = r.first;
+      below_one = r.below_one;
+      rises = r.rises;
+      nested = λ l j g. ap (λ (u : List ℕ). get_or u (2 * j) 0) (after a) ∙ thins_first (drop (suc a) tables) (table a) (table_lawful a h).thins (omega (arith, nine, length-drop (suc a) tables)) j;
+    }
   where
-    within : (n : ℕ) → n ≡ 9 → a < n
-    within n e = omega arith
+    after : (a : ℕ) → table (a + 1) ≡ get_or (drop (suc a) tables) 0 []
+    after a = ap (λ (b : ℕ). get_or tables b []) (omega arith) ∙ sym (get_or-drop (suc a) tables 0 [])

@@ -7,22 +7,23 @@ ghost use Rattle.schema.specs.Bounds.{bound, Largest};
 
 use crate::kinds::Schema;
 use crate::layout::Layout;
-use crate::scale::scale;
+use crate::scale::{LEADING_DIGIT, scale};
 use crate::tables::OctaveTable;
 use crate::wide::WideBuckets;
 
 impl OctaveTable {
-    // An entry times 2^53.
+    // An entry times 2^53. The exponent's field in its bits is 1022, and the 1 that is left of it is the leading digit.
     fn mantissa(self, place: usize) -> u64
         requires { place < 2 ^ self.schema }
         ensures value { result ≡ entry self.schema place }
         ensures low { 2 ^ 52 ≤ result }
         ensures high { result < 2 ^ 53 }
     {
-        self.entries()[place].to_bits() - 0x3fd0_0000_0000_0000
+        self.entries()[place].to_bits() - (1021 << 52)
     }
 
     // The octave of an index and its place there: the index divided by the number of buckets, and the rest.
+    // A pair, since the one caller takes it apart at once.
     fn octave(self, index: i32) -> (i32, usize)
         ensures octave { result.0 ≡ quotient (2 ^ self.schema) index }
         ensures place { result.1 ≡ remainder (2 ^ self.schema) index }
@@ -49,7 +50,7 @@ impl WideBuckets {
         ensures { result ≡ bound (neg_ℤ (pos self.doublings)) index }
     {
         let power = i64::from(index) * i64::from(self.octaves());
-        scale(0x10_0000_0000_0000, power + 1)
+        scale(LEADING_DIGIT, power + 1)
     }
 }
 

@@ -24,7 +24,7 @@ fn first_fitting(factor: f64) -> Schema
 }
 
 impl Schema {
-    // The schema of a number from -4 to 8.
+    // The schema of a number from -4 to 8. `TryFrom<i8>` beside it would be a second name for the same promise.
     pub fn new(value: i8) -> Result<Schema, SchemaFault>
         ensures { MatchResult result (λ s. s.value ≡ value) (λ f. T (not (is_schema value)) × (refusal f ≡ (1, pos 0))) }
     {

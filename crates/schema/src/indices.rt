@@ -24,7 +24,7 @@ impl OctaveTable {
 }
 
 impl WideBuckets {
-    // The index of v: schema 0's, divided and rounded up.
+    // The index of v: schema 0's, divided and rounded up. Signed numbers have no `div_ceil`.
     fn index(self, v: f64) -> i32
         requires { T (finite_nonzero v) }
         ensures value { result ≡ finite_index (neg_ℤ (pos self.doublings)) v }

@@ -3,6 +3,9 @@ ghost use Rattle.std.specs.Prelude.{◌≡◌, ◌^◌, ◌<◌, ◌≤◌, pos,
 ghost use Rattle.double.specs.Double.{largest};
 ghost use Rattle.schema.specs.Bounds.{scaled};
 
+// The leading binary digit of a mantissa of 53.
+pub(crate) const LEADING_DIGIT: u64 = 1 << 52;
+
 // The largest double that is at most mantissa × 2^(power - 53), for a mantissa of 53 binary digits; infinity above 2^1024.
 pub(crate) fn scale(mantissa: u64, power: i64) -> f64
     requires low { 2 ^ 52 ≤ mantissa }
@@ -13,7 +16,7 @@ pub(crate) fn scale(mantissa: u64, power: i64) -> f64
 {
     match power + 1021 {
         2047.. => f64::INFINITY,
-        2046 if mantissa > 0x10_0000_0000_0000 => f64::INFINITY,
+        2046 if mantissa > LEADING_DIGIT => f64::INFINITY,
         2046 => f64::MAX,
         shift @ 0.. => f64::from_bits((shift.unsigned_abs() << 52) + mantissa),
         shift @ -52.. => f64::from_bits(mantissa >> shift.unsigned_abs()),
