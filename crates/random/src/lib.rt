@@ -6,7 +6,7 @@ ghost use Rattle.random.specs.Xorshift.{step};
 
 use std::marker::Model;
 
-/// A generator. From a seed of 0 every number is 0.
+/// A generator. From a seed of 0 every number is 0, and from any other seed none is.
 #[derive(Drop, Debug)]
 pub struct Random {
     state: u64,
@@ -29,9 +29,11 @@ impl Random {
     }
 
     /// The next number, which is also the generator's state from then on.
+    #[tactic(auto, using(crate::proofs::Zero::zero_before_zero))]
     pub fn next_u64(&mut self) -> u64
         ensures number { result ≡ step self.old }
         ensures state { self.new ≡ result }
+        ensures zero { result ≡ 0 → self.old ≡ 0 }
     {
         let mut state = self.state;
         state ^= state << 13;
