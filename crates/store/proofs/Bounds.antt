@@ -1,4 +1,4 @@
--- Lists whose indices all lie above, below, from or up to an index, and rising lists by their parts.
+-- Lists whose indices all lie above, below or from an index, and rising lists by their parts.
 use Rattle.std.proofs.Common.{◌≡◌, ℕ, ◌<◌, Bool, true, false, ◌&&◌, T, ltb, [], ◌∷◌, ℤ, ◌≤ℤ◌, ◌<ℤ◌, refl, arith}
 use Rattle.std.proofs.lemmas.Int.{ints}
 use Rattle.std.proofs.lemmas.Bool.Decides.{nat_tests}
@@ -33,17 +33,9 @@ pub above_less : (i j : ℤ) (ps : Pairs) → i ≤ℤ j → Above j ps → Abov
 above_less i j [] h a = tt
 above_less i j (p ∷ ps) h a = grind (arith, ints, above_less i j ps h a.1)
 
-pub above_from : (i j : ℤ) (ps : Pairs) → i <ℤ j → From j ps → Above i ps
-above_from i j [] h a = tt
-above_from i j (p ∷ ps) h a = grind (arith, ints, above_from i j ps h a.1)
-
 pub from_above : (i : ℤ) (ps : Pairs) → Above i ps → From i ps
 from_above i [] a = tt
 from_above i (p ∷ ps) a = grind (arith, ints, from_above i ps a.1)
-
-pub from_less : (i j : ℤ) (ps : Pairs) → i ≤ℤ j → From j ps → From i ps
-from_less i j [] h a = tt
-from_less i j (p ∷ ps) h a = grind (arith, ints, from_less i j ps h a.1)
 
 -- an index not above the first of a rising list, and not that
 pub above_apart : (p q : ℤ × ℕ) (qs : Pairs) → (p.0 ≡ q.0 → ⊥) → p.0 ≤ℤ q.0 → Above q.0 qs → Above p.0 (q ∷ qs)
@@ -96,6 +88,3 @@ count_first p ps = grind (arith, same_itself)
 
 pub count_other : (i : ℤ) (p : ℤ × ℕ) (ps : Pairs) → (i ≡ p.0 → ⊥) → count_at i (p ∷ ps) ≡ count_at i ps
 count_other i p ps n = grind (arith, same_true)
-
-pub count_later : (i : ℤ) (p : ℤ × ℕ) (ps : Pairs) → p.0 <ℤ i → count_at i (p ∷ ps) ≡ count_at i ps
-count_later i p ps h = grind (arith, ints, same_true)

@@ -1,5 +1,5 @@
 -- Halving every index.
-use Rattle.std.proofs.Common.{◌≡◌, ℕ, suc, ◌+◌, ◌<◌, ◌≤◌, cond, ◌||◌, T, ◌⊎◌, [], ◌∷◌, length, ℤ, pos, negsuc, ◌+ℤ◌, ◌-ℤ◌, ◌≤ℤ◌, refl, arith}
+use Rattle.std.proofs.Common.{◌≡◌, ℕ, suc, ◌+◌, ◌<◌, ◌≤◌, cond, ◌||◌, T, [], ◌∷◌, length, ℤ, pos, negsuc, ◌+ℤ◌, ◌-ℤ◌, ◌≤ℤ◌, refl, arith}
 use lib.Signed.{le_z, le_z_yes}
 use Rattle.std.proofs.lemmas.Int.{ints}
 use Rattle.std.proofs.lemmas.Bool.{cond_both}
@@ -12,13 +12,6 @@ use Rattle.store.proofs.Bounds.{Above, From, and_T, above_apart, above_less, fro
 
 pub halved_order : (i j : ℤ) → i ≤ℤ j → halved i ≤ℤ halved j
 halved_order i j h = let a = halves i in let b = halves j in omega (arith, ints)
-
--- i is half of twice i, and of one less
-pub halved_is : (i k : ℤ) → (k ≡ i +ℤ i -ℤ pos 1) ⊎ (k ≡ i +ℤ i) → halved k ≡ i
-halved_is i k h = let a = halves k in omega (arith, ints)
-
-pub halved_back : (i k : ℤ) → halved k ≡ i → (k ≡ i +ℤ i -ℤ pos 1) ⊎ (k ≡ i +ℤ i)
-halved_back i k e = let a = halves k in grind (arith, ints)
 
 pub halved_in_range : (i : ℤ) → T (in_index_range i) → T (in_index_range (halved i))
 halved_in_range i t =

@@ -1,5 +1,5 @@
 -- Tests on indices, and what they tell.
-use Rattle.std.proofs.Common.{◌≡◌, Bool, true, false, ◌||◌, T, ◌⊎◌, ℤ, pos, negsuc, ◌≤ℤ◌, ◌<ℤ◌, refl, arith}
+use Rattle.std.proofs.Common.{◌≡◌, Bool, true, false, T, ◌⊎◌, ℤ, pos, negsuc, ◌≤ℤ◌, ◌<ℤ◌, refl, arith}
 use lib.Signed.{lt_z}
 use Rattle.std.proofs.lemmas.Int.{ints}
 use Rattle.std.proofs.lemmas.Bool.Decides.{nat_tests}
@@ -50,12 +50,3 @@ not_lt_z i j h = grind (arith, ints)
 
 pub lt_z_below : (i j : ℤ) → lt_z i j ≡ true → i <ℤ j
 lt_z_below i j h = grind (arith, ints)
-
-pub or_same : (a : Bool) → (a || a) ≡ a
-or_same a = grind arith
-
-pub or_assoc : (a b c : Bool) → (a || (b || c)) ≡ ((a || b) || c)
-or_assoc a b c = grind arith
-
-pub or_swap : (a b c : Bool) → (a || (b || c)) ≡ (b || (a || c))
-or_swap a b c = grind arith
