@@ -5,7 +5,8 @@ use row::Row;
 use run::Run;
 use store::BucketStore;
 
-// Adds all the indices, and answers how many were accepted.
+// Adds all the indices, and answers how many were accepted. With `filter` and `count` in place of the loop, a run's add
+// takes a third longer.
 fn add_all<S: BucketStore>(store: &mut S, indices: &[i32]) -> u64 {
     let mut accepted = 0u64;
     for index in indices {
@@ -18,30 +19,19 @@ fn add_all<S: BucketStore>(store: &mut S, indices: &[i32]) -> u64 {
 
 // A number that tells what the store lists: each count times its index, and the sum of these, modulo 2^64.
 fn checksum<S: BucketStore>(store: &S) -> u64 {
-    let mut sum = 0i64;
-    for position in 0..store.size() {
-        if let Some((index, count)) = store.pair(position) {
-            let count = (count % 0x8000_0000_0000_0000) as i64;
-            sum = sum.wrapping_add(i64::from(index).wrapping_mul(count));
-        }
-    }
-    (i128::from(sum) & 0xffff_ffff_ffff_ffff) as u64
+    (0..store.size())
+        .filter_map(|position| store.pair(position))
+        .map(|(index, count)| i64::from(index).cast_unsigned().wrapping_mul(count))
+        .fold(0, u64::wrapping_add)
 }
 
-// Adds the indices round after round.
-fn adds<S: BucketStore>(store: &mut S, indices: &[i32], rounds: u32) -> u64 {
+// Adds the indices round after round, and before each round does to the store what is to be done first.
+fn adds<S: BucketStore, F: Fn(&mut S)>(store: &mut S, indices: &[i32], rounds: u32, first: F) -> u64
+    requires { F.IsAlwaysCallable first }
+{
     let mut accepted = 0u64;
     for _ in 0..rounds {
-        accepted = accepted.wrapping_add(add_all(store, indices));
-    }
-    accepted.wrapping_add(checksum(store))
-}
-
-// Clears the store and adds the indices, round after round.
-fn fills<S: BucketStore>(store: &mut S, indices: &[i32], rounds: u32) -> u64 {
-    let mut accepted = 0u64;
-    for _ in 0..rounds {
-        store.clear();
+        first(store);
         accepted = accepted.wrapping_add(add_all(store, indices));
     }
     accepted.wrapping_add(checksum(store))
@@ -49,20 +39,20 @@ fn fills<S: BucketStore>(store: &mut S, indices: &[i32], rounds: u32) -> u64 {
 
 #[unsafe(no_mangle)]
 pub extern "C" fn row_adds(indices: &[i32], rounds: u32) -> u64 {
-    adds(&mut Row::new(), indices, rounds)
+    adds(&mut Row::new(), indices, rounds, |_| {})
 }
 
 #[unsafe(no_mangle)]
 pub extern "C" fn run_adds(indices: &[i32], rounds: u32) -> u64 {
-    adds(&mut Run::new(), indices, rounds)
+    adds(&mut Run::new(), indices, rounds, |_| {})
 }
 
 #[unsafe(no_mangle)]
 pub extern "C" fn row_fills(indices: &[i32], rounds: u32) -> u64 {
-    fills(&mut Row::new(), indices, rounds)
+    adds(&mut Row::new(), indices, rounds, |store| store.clear())
 }
 
 #[unsafe(no_mangle)]
 pub extern "C" fn run_fills(indices: &[i32], rounds: u32) -> u64 {
-    fills(&mut Run::new(), indices, rounds)
+    adds(&mut Run::new(), indices, rounds, |store| store.clear())
 }

@@ -1,6 +1,5 @@
-// Counts checks, and keeps the first that fails.
-ghost use Rattle.std.specs.Prelude.{◌≡◌};
-
+// Counts the checks of a schema, and keeps the first that fails.
+use schema::Schema;
 use std::fmt;
 
 // What a check is of.
@@ -30,56 +29,67 @@ pub enum Law {
     Nothing,
 }
 
-// A check that failed, the number it was of, and the index there.
+// A number, and the index there.
 #[derive(Clone, Copy)]
-pub struct Failure {
+pub struct Place {
+    pub value: f64,
+    pub index: Option<i32>,
+}
+
+impl Place {
+    pub fn new(value: f64, index: i32) -> Place {
+        Place {
+            value,
+            index: Some(index),
+        }
+    }
+}
+
+// A check that failed, and where.
+#[derive(Clone, Copy)]
+struct Failure {
     law: Law,
-    value: f64,
-    index: Option<i32>,
+    place: Place,
 }
 
 impl fmt::Display for Failure {
     fn fmt<W: fmt::Write>(&self, f: &mut fmt::Formatter<W>) -> fmt::Result {
-        let law = self.law;
-        let value = self.value;
-        let index = self.index;
-        write!(f, "{law:?} fails at {value:?}, index {index:?}")
+        let Place { value, index } = self.place;
+        write!(f, "{:?} fails at {value:?}, index {index:?}", self.law)
     }
 }
 
 #[derive(Clone, Copy)]
 pub struct Checks {
+    pub schema: Schema,
     made: u64,
     first_failure: Option<Failure>,
 }
 
 impl Checks {
-    pub fn new() -> Checks
-        ensures { result.made ≡ 0 }
-    {
+    pub fn new(schema: Schema) -> Checks {
         Checks {
+            schema,
             made: 0,
             first_failure: None,
         }
     }
 
-    pub fn made(&self) -> u64
-        ensures { result ≡ self.now.made }
-    {
-        self.made
-    }
-
-    pub fn first_failure(&self) -> Option<Failure>
-        ensures { result ≡ self.now.first_failure }
-    {
-        self.first_failure
-    }
-
     // One more check, of a number and the index there.
-    pub fn see(&mut self, law: Law, value: f64, index: Option<i32>, holds: bool) {
+    pub fn see(&mut self, law: Law, place: Place, holds: bool) {
         self.made = self.made.saturating_add(1);
-        if !holds && self.first_failure.is_none() {
-            self.first_failure = Some(Failure { law, value, index });
+        if !holds {
+            self.first_failure.get_or_insert(Failure { law, place });
+        }
+    }
+}
+
+impl fmt::Display for Checks {
+    fn fmt<W: fmt::Write>(&self, f: &mut fmt::Formatter<W>) -> fmt::Result {
+        let made = self.made;
+        match self.first_failure {
+            None => write!(f, "{made} checks ok"),
+            Some(failure) => write!(f, "{made} checks, first failure: {failure}"),
         }
     }
 }

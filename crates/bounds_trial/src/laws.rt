@@ -1,5 +1,5 @@
-// What is checked of a number, of a bound and of a schema.
-use crate::checks::{Checks, Law};
+// What is checked of a schema: of a number, of a bound and of the schema's ends.
+use crate::checks::{Checks, Law, Place};
 use crate::numbers::power_of_two;
 use double::frexp;
 use index::{HIGHEST_INDEX, LOWEST_INDEX, coarser_index, in_index_range};
@@ -22,28 +22,23 @@ fn well_parted(value: f64) -> bool {
 }
 
 // Checks a number above zero.
-pub fn number(checks: &mut Checks, schema: Schema, value: f64) {
+pub fn number(checks: &mut Checks, value: f64) {
+    let schema = checks.schema;
     let found = bucket_index(schema, value);
+    let place = Place {
+        value,
+        index: found,
+    };
     let Some(index) = found else {
-        checks.see(Law::Bucket, value, found, false);
+        checks.see(Law::Bucket, place, false);
         return;
     };
-    checks.see(Law::Bucket, value, found, in_bucket(schema, value, index));
-    checks.see(
-        Law::Sign,
-        value,
-        found,
-        bucket_index(schema, -value) == found,
-    );
-    checks.see(Law::Parts, value, found, well_parted(value));
+    checks.see(Law::Bucket, place, in_bucket(schema, value, index));
+    checks.see(Law::Sign, place, bucket_index(schema, -value) == found);
+    checks.see(Law::Parts, place, well_parted(value));
     if let Some(coarser) = schema.coarser() {
         let half = Some(coarser_index(index));
-        checks.see(
-            Law::Halving,
-            value,
-            found,
-            bucket_index(coarser, value) == half,
-        );
+        checks.see(Law::Halving, place, bucket_index(coarser, value) == half);
     }
 }
 
@@ -54,11 +49,7 @@ fn power(schema: Schema, index: i32) -> Option<i32> {
         return Some(index.wrapping_mul(1 << value.unsigned_abs().min(4)));
     }
     let places = 1 << value.unsigned_abs().min(8);
-    if index % places == 0 {
-        Some(index / places)
-    } else {
-        None
-    }
+    (index % places == 0).then(|| index / places)
 }
 
 // The bound that is 2^exponent: the largest double where 2^1024 is meant.
@@ -71,97 +62,87 @@ fn power_bound(exponent: i32) -> f64 {
 }
 
 // Checks the bound of an index alone.
-fn alone(checks: &mut Checks, schema: Schema, index: i32, bound: f64) {
-    let at = Some(index);
+fn alone(checks: &mut Checks, index: i32, bound: f64) {
+    let schema = checks.schema;
+    let place = Place::new(bound, index);
     if let Some(exponent) = power(schema, index) {
-        checks.see(Law::Power, bound, at, bound == power_bound(exponent));
+        checks.see(Law::Power, place, bound == power_bound(exponent));
     }
-    if index % 2 == 0 {
-        if let Some(coarser) = schema.coarser() {
-            checks.see(
-                Law::Shared,
-                bound,
-                at,
-                positive_upper_bound(coarser, index / 2) == bound,
-            );
-        }
+    if index % 2 == 0
+        && let Some(coarser) = schema.coarser()
+    {
+        let shared = positive_upper_bound(coarser, index / 2);
+        checks.see(Law::Shared, place, shared == bound);
     }
 }
 
+// Checks that a number has the index.
+fn has_index(checks: &mut Checks, law: Law, value: f64, index: i32) {
+    let holds = bucket_index(checks.schema, value) == Some(index);
+    checks.see(law, Place::new(value, index), holds);
+}
+
 // Checks the bound of an index, and the doubles next to it.
-pub fn boundary(checks: &mut Checks, schema: Schema, index: i32) {
-    let next = Some(index.wrapping_add(1));
+pub fn boundary(checks: &mut Checks, index: i32) {
+    let schema = checks.schema;
+    let next = index.wrapping_add(1);
     let before = positive_upper_bound(schema, index.wrapping_sub(1));
     let bound = positive_upper_bound(schema, index);
-    let after = positive_upper_bound(schema, index.wrapping_add(1));
+    let after = positive_upper_bound(schema, next);
     let below = bound.next_down();
     let above = bound.next_up();
-    let at = Some(index);
-    checks.see(Law::Rising, bound, at, before <= bound && bound <= after);
-    alone(checks, schema, index, bound);
+    let rises = before <= bound && bound <= after;
+    checks.see(Law::Rising, Place::new(bound, index), rises);
+    alone(checks, index, bound);
     if before < bound {
-        checks.see(Law::Bound, bound, at, bucket_index(schema, bound) == at);
+        has_index(checks, Law::Bound, bound, index);
     }
     if bound < after {
-        checks.see(Law::Above, above, next, bucket_index(schema, above) == next);
+        has_index(checks, Law::Above, above, next);
     }
     if before < below {
-        checks.see(Law::Below, below, at, bucket_index(schema, below) == at);
+        has_index(checks, Law::Below, below, index);
     }
     for value in [below, bound, above] {
         if value > 0.0 {
-            number(checks, schema, value);
+            number(checks, value);
         }
     }
 }
 
 // Checks the ends of a schema's range of indices, and of all schemas'.
-pub fn ends(checks: &mut Checks, schema: Schema) {
+pub fn ends(checks: &mut Checks) {
+    let schema = checks.schema;
     let (low, high) = schema.index_range();
     let least = power_of_two(-1074);
-    checks.see(
-        Law::Ends,
-        least,
-        Some(low),
-        bucket_index(schema, least) == Some(low),
-    );
-    let largest = Some(high.wrapping_sub(1));
-    checks.see(
-        Law::Ends,
-        f64::MAX,
-        largest,
-        bucket_index(schema, f64::MAX) == largest,
-    );
-    for infinity in [f64::INFINITY, -f64::INFINITY] {
-        checks.see(
-            Law::Ends,
-            infinity,
-            Some(high),
-            bucket_index(schema, infinity) == Some(high),
-        );
-    }
-    checks.see(Law::Ends, least, Some(low), in_index_range(low));
-    checks.see(Law::Ends, f64::INFINITY, Some(high), in_index_range(high));
-    for index in [i32::MIN, i32::MAX] {
+    has_index(checks, Law::Ends, least, low);
+    has_index(checks, Law::Ends, f64::MAX, high.wrapping_sub(1));
+    has_index(checks, Law::Ends, f64::INFINITY, high);
+    has_index(checks, Law::Ends, -f64::INFINITY, high);
+    let lowest = Place::new(least, low);
+    let highest = Place::new(f64::INFINITY, high);
+    checks.see(Law::Ends, lowest, in_index_range(low));
+    checks.see(Law::Ends, highest, in_index_range(high));
+    for (index, end) in [(i32::MIN, 0.0), (i32::MAX, f64::INFINITY)] {
         let bound = positive_upper_bound(schema, index);
-        let end = if index < 0 { 0.0 } else { f64::INFINITY };
-        checks.see(Law::Ends, bound, Some(index), bound == end);
+        checks.see(Law::Ends, Place::new(bound, index), bound == end);
     }
     if let Some(coarser) = schema.coarser() {
         let halves = (coarser_index(low), coarser_index(high));
-        checks.see(Law::Ends, least, Some(low), coarser.index_range() == halves);
+        checks.see(Law::Ends, lowest, coarser.index_range() == halves);
     }
     if schema.value() == 8 {
-        checks.see(Law::Ends, least, Some(low), low == LOWEST_INDEX);
-        checks.see(Law::Ends, f64::INFINITY, Some(high), high == HIGHEST_INDEX);
+        checks.see(Law::Ends, lowest, low == LOWEST_INDEX);
+        checks.see(Law::Ends, highest, high == HIGHEST_INDEX);
     }
 }
 
 // Checks that zero and NaN have no index.
-pub fn nothing(checks: &mut Checks, schema: Schema) {
+pub fn nothing(checks: &mut Checks) {
     for value in [0.0, -0.0, f64::NAN, -f64::NAN] {
-        let found = bucket_index(schema, value);
-        checks.see(Law::Nothing, value, found, found.is_none());
-        checks.see(Law::Nothing, value, found, frexp(value) == (0.0, 0));
+        let index = bucket_index(checks.schema, value);
+        let place = Place { value, index };
+        checks.see(Law::Nothing, place, index.is_none());
+        checks.see(Law::Nothing, place, frexp(value) == (0.0, 0));
     }
 }

@@ -1,8 +1,8 @@
 -- Tests on indices, and what they tell.
-use Rattle.std.proofs.Common.{◌≡◌, Bool, true, false, ◌||◌, T, ◌⊎◌, ℤ, pos, negsuc, ◌≤ℤ◌, ◌<ℤ◌, sym, refl, ap, ◌∙◌, subst, arith}
+use Rattle.std.proofs.Common.{◌≡◌, Bool, true, false, T, ◌⊎◌, ℤ, pos, negsuc, ◌≤ℤ◌, ◌<ℤ◌, refl, arith}
 use lib.Signed.{lt_z}
 use Rattle.std.proofs.lemmas.Int.{ints}
-use Rattle.std.proofs.lemmas.Bool.{eq-eqb, eqb-true, both_ways}
+use Rattle.std.proofs.lemmas.Bool.Decides.{nat_tests}
 use Rattle.store.specs.Pairs.{same}
 
 pub T_true : (b : Bool) → T b → b ≡ true
@@ -10,36 +10,33 @@ T_true true t = refl
 T_true false t = absurd t
 
 pub true_T : (b : Bool) → b ≡ true → T b
-true_T b e = subst T (sym e) tt
+true_T true e = tt
+true_T false e = cc
 
 pub same_itself : (i : ℤ) → same i i ≡ true
-same_itself (pos a) = eq-eqb a a refl
-same_itself (negsuc a) = eq-eqb a a refl
+same_itself (pos a) = grind (arith, nat_tests)
+same_itself (negsuc a) = grind (arith, nat_tests)
 
 pub same_from : (i j : ℤ) → i ≡ j → same i j ≡ true
-same_from i j e = ap (same i) (sym e) ∙ same_itself i
+same_from i j e = grind (arith, same_itself)
 
 pub same_true : (i j : ℤ) → same i j ≡ true → i ≡ j
-same_true (pos a) (pos b) e = ap pos (eqb-true a b e)
+same_true (pos a) (pos b) e = grind (arith, nat_tests)
 same_true (pos a) (negsuc b) e = cc
 same_true (negsuc a) (pos b) e = cc
-same_true (negsuc a) (negsuc b) e = ap negsuc (eqb-true a b e)
+same_true (negsuc a) (negsuc b) e = grind (arith, nat_tests)
 
 pub same_not : (i j : ℤ) → (i ≡ j → ⊥) → same i j ≡ false
-same_not i j n = go (same i j) refl
-  where
-    go : (b : Bool) → same i j ≡ b → same i j ≡ false
-    go true e = absurd (n (same_true i j e))
-    go false e = e
+same_not i j n = grind (arith, same_true)
 
 pub same_false : (i j : ℤ) → same i j ≡ false → i ≡ j → ⊥
-same_false i j f e = both_ways (same i j) f (same_from i j e)
+same_false i j f e = grind (arith, same_itself)
 
 pub below_same : (i j : ℤ) → i <ℤ j → same i j ≡ false
-below_same i j h = same_not i j (λ e. omega (arith, ints))
+below_same i j h = grind (arith, ints, same_true)
 
 pub above_same : (i j : ℤ) → j <ℤ i → same i j ≡ false
-above_same i j h = same_not i j (λ e. omega (arith, ints))
+above_same i j h = grind (arith, ints, same_true)
 
 -- i is below j, at j or above j
 pub cases_index : (i j : ℤ) → (i <ℤ j) ⊎ ((i ≡ j) ⊎ (j <ℤ i))
@@ -53,16 +50,3 @@ not_lt_z i j h = grind (arith, ints)
 
 pub lt_z_below : (i j : ℤ) → lt_z i j ≡ true → i <ℤ j
 lt_z_below i j h = grind (arith, ints)
-
-pub or_same : (a : Bool) → (a || a) ≡ a
-or_same true = refl
-or_same false = refl
-
-pub or_assoc : (a b c : Bool) → (a || (b || c)) ≡ ((a || b) || c)
-or_assoc true b c = refl
-or_assoc false b c = refl
-
-pub or_swap : (a b c : Bool) → (a || (b || c)) ≡ (b || (a || c))
-or_swap true true c = refl
-or_swap true false c = refl
-or_swap false b c = refl

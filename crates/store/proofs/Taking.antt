@@ -1,20 +1,15 @@
 -- Taking the lowest pair.
-use Rattle.std.proofs.Common.{◌≡◌, ℕ, T, [], ◌∷◌, ℤ, ◌≤ℤ◌, sym, refl, subst, inl, inr, arith}
+use Rattle.std.proofs.Common.{◌≡◌, ℕ, T, [], ◌∷◌, ℤ, ◌≤ℤ◌, sym, refl, subst, arith}
 use Rattle.std.proofs.lemmas.Int.{ints}
-use Rattle.std.proofs.lemmas.Bool.{or_cases}
-use Rattle.store.specs.Pairs.{Pairs, Means, same, rising, listed, without_lowest}
+use Rattle.store.specs.Pairs.{Pairs, Means, rising, listed, without_lowest}
 use Rattle.store.specs.Laws.{Taken, Taking}
-use Rattle.store.proofs.Order.{T_true, true_T, same_true}
+use Rattle.store.proofs.Order.{same_true}
 use Rattle.store.proofs.Bounds.{From, from_above, rising_tail, rising_above, counted_tail, uncounted_above, count_first, count_other}
 
 -- every listed index is i or above
 pub from_listed : (i j : ℤ) (ps : Pairs) → From i ps → T (listed j ps) → i ≤ℤ j
 from_listed i j [] f t = absurd t
-from_listed i j (p ∷ ps) f t =
-    elim (or_cases (same j p.0) (listed j ps) (T_true (listed j (p ∷ ps)) t)) [
-      | inl e ↦ let k = same_true j p.0 e in let g = f.0 in omega (arith, ints)
-      | inr e ↦ from_listed i j ps f.1 (true_T (listed j ps) e)
-    ]
+from_listed i j (p ∷ ps) f t = grind (arith, ints, same_true, from_listed i j ps f.1)
 
 pub means_taken : (ps : Pairs) → Means ps → Means (without_lowest ps)
 means_taken [] m = m

@@ -2,6 +2,7 @@
 ghost use Rattle.std.specs.Prelude.{◌≡◌, Some};
 ghost use Rattle.store.specs.Faults.{refusal, message};
 
+use std::error::Error;
 use std::fmt;
 
 #[derive(Clone, Copy, PartialEq, Eq, Debug)]
@@ -15,7 +16,7 @@ pub enum StoreFault {
 }
 
 impl StoreFault {
-    // The number of the refusal.
+    // The number of the refusal. The numbers are published and not in the order of the variants, so no cast gives them.
     pub fn number(&self) -> u8
         ensures { result ≡ (refusal self.now).0 }
     {
@@ -31,13 +32,13 @@ impl StoreFault {
         ensures { result ≡ (refusal self.now).1 }
     {
         match self {
-            StoreFault::OutOfRange(index) => *index,
+            StoreFault::OutOfRange(index) | StoreFault::NoRoom(index) => *index,
             StoreFault::Full => 0,
-            StoreFault::NoRoom(index) => *index,
         }
     }
 }
 
+// The text is promised, and a derive would promise nothing of it.
 impl fmt::Display for StoreFault {
     ghost output = { λ f. Some (message f) };
 
@@ -56,3 +57,5 @@ impl fmt::Display for StoreFault {
         }
     }
 }
+
+impl Error for StoreFault {}

@@ -1,5 +1,5 @@
 // The calls of a store, and what they answer.
-use store::BucketStore;
+use store::{BucketStore, StoreFault};
 
 #[derive(Clone, Copy, Debug)]
 pub enum Call {
@@ -18,8 +18,7 @@ pub enum Answer {
     Size(usize),
     Pair(Option<(i32, u64)>),
     Room(bool),
-    // the number of the refusal, and its place
-    Refused(u8, i32),
+    Refused(StoreFault),
 }
 
 // Makes the call of a store.
@@ -30,7 +29,7 @@ pub fn made<S: BucketStore>(store: &mut S, call: Call) -> Answer {
         Call::HasRoom(index) => Answer::Room(store.has_room(index)),
         Call::Add(index) => match store.add(index) {
             Ok(()) => Answer::Done,
-            Err(fault) => Answer::Refused(fault.number(), fault.place()),
+            Err(fault) => Answer::Refused(fault),
         },
         Call::TakeLowest => Answer::Pair(store.take_lowest()),
         Call::Halve => {

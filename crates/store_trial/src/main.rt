@@ -2,8 +2,8 @@
 #![tactic(auto)]
 
 mod calls;
+mod indices;
 mod model;
-mod random;
 mod scenes;
 mod trial;
 
@@ -12,49 +12,26 @@ use row::Row;
 use run::Run;
 use std::io;
 use store::BucketStore;
-use trial::{Trial, Trouble};
-
-// What is tried of every store.
-fn try_any<S: BucketStore>(trial: &mut Trial<S>) -> Result<(), Trouble> {
-    scenes::range(trial)?;
-    scenes::halving(trial)?;
-    scenes::random_calls(trial, 88_172_645_463_325_252, -20, 41)?;
-    scenes::random_calls(trial, 77, -1_073_741_824, 2_147_483_648)?;
-    scenes::random_calls(trial, 11, -400, 800)?;
-    scenes::random_calls(trial, 1_234_567, -3_000, 600)?;
-    scenes::random_calls(trial, 5, -275_200, 700)?;
-    scenes::random_calls(trial, 31, 261_700, 600)?;
-    scenes::random_calls(trial, 987_654_321, -280_000, 550_000)
-}
-
-fn try_row(trial: &mut Trial<Row>) -> Result<(), Trouble> {
-    scenes::row(trial)?;
-    try_any(trial)
-}
-
-fn try_run(trial: &mut Trial<Run>) -> Result<(), Trouble> {
-    scenes::run(trial)?;
-    try_any(trial)
-}
+use trial::{Tally, Trial, Trouble};
 
 // Prints how a trial went, and answers whether it went well.
 fn report<S: BucketStore>(
-    rt: &HostRuntime,
+    rt: &impl Print,
     name: &str,
     trial: &Trial<S>,
-    res: Result<(), Trouble>,
+    outcome: Result<(), Trouble>,
 ) -> io::Result<bool> {
-    let tally = trial.tally;
-    let calls = tally.calls;
-    let accepted = tally.accepted;
+    let Tally {
+        calls,
+        accepted,
+        full,
+        no_room,
+        out_of_range,
+    } = trial.tally;
     println!(rt; "{name}: {calls} calls, {accepted} adds accepted")?;
-    let full = tally.full;
-    let no_room = tally.no_room;
-    let out_of_range = tally.out_of_range;
     println!(rt; "{name}: refusal 6 {full} times, 7 {no_room} times, 8 {out_of_range} times")?;
-    let size = trial.size();
-    println!(rt; "{name}: size {size} at the end")?;
-    match res {
+    println!(rt; "{name}: size {} at the end", trial.size())?;
+    match outcome {
         Ok(()) => Ok(true),
         Err(trouble) => {
             println!(rt; "{name}: {trouble}")?;
@@ -63,13 +40,24 @@ fn report<S: BucketStore>(
     }
 }
 
+// Tries a store: its own scene, and then what is tried of every store. Prints how it went, and answers whether it went well.
+fn try_store<S: BucketStore + Drop, F: FnOnce(&mut Trial<S>) -> Result<(), Trouble>>(
+    rt: &impl Print,
+    name: &str,
+    mut trial: Trial<S>,
+    own_scene: F,
+) -> io::Result<bool>
+    requires { F.IsAlwaysCallable own_scene }
+{
+    let outcome = own_scene(&mut trial).and_then(|()| scenes::of_every_store(&mut trial));
+    report(rt, name, &trial, outcome)
+}
+
 fn main(rt: HostRuntime) -> io::Result<()> {
-    let mut rows = Trial::new(rt.alloc(), Row::new(), Rule::Listed(320));
-    let result = try_row(&mut rows);
-    let row_well = report(&rt, "row", &rows, result)?;
-    let mut runs = Trial::new(rt.alloc(), Run::new(), Rule::Consecutive(512));
-    let result = try_run(&mut runs);
-    let run_well = report(&rt, "run", &runs, result)?;
+    let rows = Trial::new(rt.alloc(), Row::new(), Rule::Listed(320));
+    let row_well = try_store(&rt, "row", rows, scenes::row)?;
+    let runs = Trial::new(rt.alloc(), Run::new(), Rule::Consecutive(512));
+    let run_well = try_store(&rt, "run", runs, scenes::run)?;
     if row_well && run_well {
         println!(rt; "ok")?;
     }

@@ -1,10 +1,9 @@
 // A plain model of a store: a map from each listed index to its count, and a rule of room.
-ghost use Rattle.std.specs.Prelude.{◌≡◌};
-ghost use Rattle.index.specs.Index.{in_index_range, Halves};
-
 use crate::calls::{Answer, Call};
+use index::{coarser_index, in_index_range};
 use std::alloc::{AllocError, Global};
 use std::collections::BTreeMap;
+use store::StoreFault;
 
 // For which indices a store has room.
 #[derive(Clone, Copy)]
@@ -17,27 +16,15 @@ pub enum Rule {
 
 #[derive(Drop)]
 pub struct Model {
+    heap: Global,
     counts: BTreeMap<i32, u64>,
     rule: Rule,
-}
-
-// Half the index, rounded up.
-fn half(index: i32) -> i32
-    ensures { Halves index result }
-{
-    ((i64::from(index) + 1) >> 1) as i32
-}
-
-// Whether some schema gives this index to some number.
-fn known(index: i32) -> bool
-    ensures { result ≡ in_index_range index }
-{
-    -274_945 < index && index < 262_146
 }
 
 impl Model {
     pub fn new(heap: Global, rule: Rule) -> Model {
         Model {
+            heap,
             counts: BTreeMap::new(heap),
             rule,
         }
@@ -47,61 +34,57 @@ impl Model {
         self.counts.len()
     }
 
-    // Whether the listed indices and this one lie among `reach` consecutive ones.
-    fn lies_near(&self, index: i32, reach: u32) -> bool {
-        for other in self.counts.keys() {
-            if index.abs_diff(*other) >= reach {
-                return false;
-            }
-        }
-        true
-    }
-
     fn has_room(&self, index: i32) -> bool {
         match self.rule {
             Rule::Listed(most) => self.counts.len() < most || self.counts.contains_key(&index),
-            Rule::Consecutive(reach) => self.lies_near(index, reach),
+            Rule::Consecutive(reach) => self
+                .counts
+                .keys()
+                .all(|other| index.abs_diff(*other) < reach),
         }
     }
 
     fn add(&mut self, index: i32) -> Result<Answer, AllocError> {
-        if !known(index) {
-            return Ok(Answer::Refused(8, index));
+        if !in_index_range(index) {
+            return Ok(Answer::Refused(StoreFault::OutOfRange(index)));
         }
         if !self.has_room(index) {
-            return Ok(Answer::Refused(7, index));
+            return Ok(Answer::Refused(StoreFault::NoRoom(index)));
         }
-        let count = self.counts.get(&index).copied().unwrap_or(0);
-        self.counts.insert(index, count.saturating_add(1))?;
+        let count = self.counts.entry(index)?.or_insert(0);
+        *count = count.saturating_add(1);
         Ok(Answer::Done)
     }
 
-    fn halve(&mut self, heap: Global) -> Result<Answer, AllocError> {
-        let mut coarser = BTreeMap::new(heap);
-        for (index, count) in self.counts.iter() {
-            let sum = coarser.entry(half(*index))?.or_insert(0u64);
+    fn halve(&mut self) -> Result<(), AllocError> {
+        let mut coarser = BTreeMap::new(self.heap);
+        for (index, count) in &self.counts {
+            let sum = coarser.entry(coarser_index(*index))?.or_insert(0u64);
             *sum = sum.saturating_add(*count);
         }
         self.counts = coarser;
-        Ok(Answer::Done)
+        Ok(())
     }
 
     fn pair(&self, position: usize) -> Option<(i32, u64)> {
-        match self.counts.iter().nth(position) {
-            Some((index, count)) => Some((*index, *count)),
-            None => None,
-        }
+        self.counts
+            .iter()
+            .nth(position)
+            .map(|(index, count)| (*index, *count))
     }
 
     // What a store that does as the model does answers to the call.
-    pub fn answer(&mut self, heap: Global, call: Call) -> Result<Answer, AllocError> {
+    pub fn answer(&mut self, call: Call) -> Result<Answer, AllocError> {
         match call {
             Call::Size => Ok(Answer::Size(self.size())),
             Call::Pair(position) => Ok(Answer::Pair(self.pair(position))),
             Call::HasRoom(index) => Ok(Answer::Room(self.has_room(index))),
             Call::Add(index) => self.add(index),
             Call::TakeLowest => Ok(Answer::Pair(self.counts.pop_first())),
-            Call::Halve => self.halve(heap),
+            Call::Halve => {
+                self.halve()?;
+                Ok(Answer::Done)
+            }
             Call::Clear => {
                 self.counts.clear();
                 Ok(Answer::Done)

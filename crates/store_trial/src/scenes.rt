@@ -1,16 +1,18 @@
 // What is tried of every store, and of each kind: chosen calls with their answers, and random ones.
-ghost use Rattle.std.specs.Prelude.{◌^◌, ◌<◌, ◌≤◌};
-
 use crate::calls::{Answer, Call};
-use crate::random::Random;
+use crate::indices::{Indices, below};
 use crate::trial::{Trial, Trouble};
-use store::BucketStore;
+use random::Random;
+use store::{BucketStore, StoreFault};
 
 // The ends of the range of indices, and what lies past them.
-pub fn range<S: BucketStore>(trial: &mut Trial<S>) -> Result<(), Trouble> {
+fn range<S: BucketStore>(trial: &mut Trial<S>) -> Result<(), Trouble> {
     for index in [i32::MIN, -274_945, 262_146, i32::MAX] {
         trial.expect(Call::Clear, Answer::Done)?;
-        trial.expect(Call::Add(index), Answer::Refused(8, index))?;
+        trial.expect(
+            Call::Add(index),
+            Answer::Refused(StoreFault::OutOfRange(index)),
+        )?;
         trial.expect(Call::Size, Answer::Size(0))?;
         trial.expect(Call::HasRoom(index), Answer::Room(true))?;
     }
@@ -20,8 +22,14 @@ pub fn range<S: BucketStore>(trial: &mut Trial<S>) -> Result<(), Trouble> {
         trial.expect(Call::Pair(0), Answer::Pair(Some((index, 1))))?;
         trial.call(Call::HasRoom(i32::MIN))?;
         trial.call(Call::HasRoom(i32::MAX))?;
-        trial.expect(Call::Add(i32::MIN), Answer::Refused(8, i32::MIN))?;
-        trial.expect(Call::Add(i32::MAX), Answer::Refused(8, i32::MAX))?;
+        trial.expect(
+            Call::Add(i32::MIN),
+            Answer::Refused(StoreFault::OutOfRange(i32::MIN)),
+        )?;
+        trial.expect(
+            Call::Add(i32::MAX),
+            Answer::Refused(StoreFault::OutOfRange(i32::MAX)),
+        )?;
         trial.expect(Call::Add(index), Answer::Done)?;
         trial.expect(Call::TakeLowest, Answer::Pair(Some((index, 2))))?;
         trial.expect(Call::TakeLowest, Answer::Pair(None))?;
@@ -30,37 +38,21 @@ pub fn range<S: BucketStore>(trial: &mut Trial<S>) -> Result<(), Trouble> {
 }
 
 // Halving odd and even indices on both sides of zero, until none meet.
-pub fn halving<S: BucketStore>(trial: &mut Trial<S>) -> Result<(), Trouble> {
+fn halving<S: BucketStore>(trial: &mut Trial<S>) -> Result<(), Trouble> {
     trial.expect(Call::Clear, Answer::Done)?;
     for index in [-3, -2, -1, 0, 1, 2, 3, 4, 4] {
         trial.expect(Call::Add(index), Answer::Done)?;
     }
     trial.expect(Call::Halve, Answer::Done)?;
     let halves = [(-1, 2), (0, 2), (1, 2), (2, 3)];
-    for position in 0..4 {
-        trial.expect(Call::Pair(position), Answer::Pair(Some(halves[position])))?;
+    for (position, half) in halves.into_iter().enumerate() {
+        trial.expect(Call::Pair(position), Answer::Pair(Some(half)))?;
     }
     trial.compare_all()?;
-    for size in [2, 2, 2] {
+    for _ in 0..3 {
         trial.expect(Call::Halve, Answer::Done)?;
-        trial.expect(Call::Size, Answer::Size(size))?;
+        trial.expect(Call::Size, Answer::Size(2))?;
         trial.compare_all()?;
-    }
-    Ok(())
-}
-
-// Adds each index from low to high.
-fn add_upward<S: BucketStore>(trial: &mut Trial<S>, low: i32, high: i32) -> Result<(), Trouble> {
-    for index in low..=high {
-        trial.expect(Call::Add(index), Answer::Done)?;
-    }
-    Ok(())
-}
-
-// Adds each index from high to low.
-fn add_downward<S: BucketStore>(trial: &mut Trial<S>, low: i32, high: i32) -> Result<(), Trouble> {
-    for index in (low..=high).rev() {
-        trial.expect(Call::Add(index), Answer::Done)?;
     }
     Ok(())
 }
@@ -68,7 +60,7 @@ fn add_downward<S: BucketStore>(trial: &mut Trial<S>, low: i32, high: i32) -> Re
 // There is no room for the index.
 fn turned_away<S: BucketStore>(trial: &mut Trial<S>, index: i32) -> Result<(), Trouble> {
     trial.expect(Call::HasRoom(index), Answer::Room(false))?;
-    trial.expect(Call::Add(index), Answer::Refused(7, index))
+    trial.expect(Call::Add(index), Answer::Refused(StoreFault::NoRoom(index)))
 }
 
 // Halves until nothing meets any more.
@@ -96,7 +88,10 @@ fn brim<S: BucketStore>(trial: &mut Trial<S>) -> Result<(), Trouble> {
     for index in [-161, 160, -274_944, 262_145] {
         turned_away(trial, index)?;
     }
-    trial.expect(Call::Add(i32::MAX), Answer::Refused(8, i32::MAX))?;
+    trial.expect(
+        Call::Add(i32::MAX),
+        Answer::Refused(StoreFault::OutOfRange(i32::MAX)),
+    )?;
     for index in [-160, 0, 159] {
         trial.expect(Call::HasRoom(index), Answer::Room(true))?;
         trial.expect(Call::Add(index), Answer::Done)?;
@@ -109,16 +104,30 @@ fn brim<S: BucketStore>(trial: &mut Trial<S>) -> Result<(), Trouble> {
     trial.compare_all()
 }
 
-// A row filled from either end.
-pub fn row<S: BucketStore>(trial: &mut Trial<S>) -> Result<(), Trouble> {
+// Adds all indices from the lowest to the highest, and then from the highest to the lowest.
+fn filled<S: BucketStore, F: Fn(&mut Trial<S>) -> Result<(), Trouble>>(
+    trial: &mut Trial<S>,
+    lowest: i32,
+    highest: i32,
+    when_full: F,
+) -> Result<(), Trouble>
+    requires { F.IsAlwaysCallable when_full }
+{
     trial.expect(Call::Clear, Answer::Done)?;
-    add_upward(trial, -160, 159)?;
-    brim(trial)?;
+    (lowest..=highest).try_for_each(|index| trial.expect(Call::Add(index), Answer::Done))?;
+    when_full(trial)?;
     halve_down(trial)?;
     trial.expect(Call::Clear, Answer::Done)?;
-    add_downward(trial, -160, 159)?;
-    brim(trial)?;
+    (lowest..=highest)
+        .rev()
+        .try_for_each(|index| trial.expect(Call::Add(index), Answer::Done))?;
+    when_full(trial)?;
     take_all(trial)
+}
+
+// A row filled from either end.
+pub fn row<S: BucketStore>(trial: &mut Trial<S>) -> Result<(), Trouble> {
+    filled(trial, -160, 159, brim)
 }
 
 // A run of the 512 indices from -200 to 311: no room on either side, until the lowest leaves.
@@ -128,7 +137,10 @@ fn window<S: BucketStore>(trial: &mut Trial<S>) -> Result<(), Trouble> {
     for index in [-201, 312, -274_944, 262_145] {
         turned_away(trial, index)?;
     }
-    trial.expect(Call::Add(i32::MIN), Answer::Refused(8, i32::MIN))?;
+    trial.expect(
+        Call::Add(i32::MIN),
+        Answer::Refused(StoreFault::OutOfRange(i32::MIN)),
+    )?;
     trial.expect(Call::Add(311), Answer::Done)?;
     trial.expect(Call::Pair(511), Answer::Pair(Some((311, 2))))?;
     trial.expect(Call::TakeLowest, Answer::Pair(Some((-200, 1))))?;
@@ -158,53 +170,63 @@ fn reach<S: BucketStore>(trial: &mut Trial<S>, index: i32) -> Result<(), Trouble
 
 // A run's window filled from either end, and moved along.
 pub fn run<S: BucketStore>(trial: &mut Trial<S>) -> Result<(), Trouble> {
-    trial.expect(Call::Clear, Answer::Done)?;
-    add_upward(trial, -200, 311)?;
-    window(trial)?;
-    halve_down(trial)?;
-    trial.expect(Call::Clear, Answer::Done)?;
-    add_downward(trial, -200, 311)?;
-    window(trial)?;
-    take_all(trial)?;
+    filled(trial, -200, 311, window)?;
     for index in [-274_432, -512, -511, -1, 0, 1, 261_632] {
         reach(trial, index)?;
     }
     Ok(())
 }
 
-// A random call: mostly an add of one of `width` indices.
-fn random_call(random: &mut Random, lowest: i32, width: u32) -> Call
-    requires some { 0 < width }
-    requires few { width ≤ 2 ^ 31 }
-{
-    let index = random.index(lowest, width);
-    match random.below(2000) {
+// A random call: mostly an add of one of the indices.
+fn random_call(random: &mut Random, indices: Indices) -> Call {
+    let index = indices.pick(random);
+    match below(random, 2000) {
         0 => Call::Clear,
         1..=4 => Call::Halve,
         5..=99 => Call::TakeLowest,
         100..=249 => Call::HasRoom(index),
-        250..=349 => Call::Pair(random.below(600) as usize),
+        250..=349 => Call::Pair(below(random, 600) as usize),
         350..=399 => Call::Size,
         _ => Call::Add(index),
     }
 }
 
-// Random calls with indices among `width` from the lowest on; now and then all that is listed is compared.
-pub(crate) fn random_calls<S: BucketStore>(
+// Random calls; now and then all that is listed is compared.
+fn random_calls<S: BucketStore>(
     trial: &mut Trial<S>,
     seed: u64,
-    lowest: i32,
-    width: u32,
-) -> Result<(), Trouble>
-    requires some { 0 < width }
-    requires few { width ≤ 2 ^ 31 }
-{
+    indices: Indices,
+) -> Result<(), Trouble> {
     let mut random = Random::new(seed);
     for turn in 0..3000 {
-        trial.call(random_call(&mut random, lowest, width))?;
+        trial.call(random_call(&mut random, indices))?;
         if turn % 100 == 99 {
             trial.compare_all()?;
         }
     }
     Ok(())
+}
+
+// Random calls with indices in the middle, at the ends and all over the range, and past it.
+fn courses<S: BucketStore>(trial: &mut Trial<S>) -> Result<(), Trouble> {
+    let courses = [
+        (88_172_645_463_325_252, Indices::new(-20, 41)),
+        (77, Indices::new(-1_073_741_824, 2_147_483_648)),
+        (11, Indices::new(-400, 800)),
+        (1_234_567, Indices::new(-3_000, 600)),
+        (5, Indices::new(-275_200, 700)),
+        (31, Indices::new(261_700, 600)),
+        (987_654_321, Indices::new(-280_000, 550_000)),
+    ];
+    for (seed, indices) in courses {
+        random_calls(trial, seed, indices)?;
+    }
+    Ok(())
+}
+
+// What is tried of every store.
+pub fn of_every_store<S: BucketStore>(trial: &mut Trial<S>) -> Result<(), Trouble> {
+    range(trial)?;
+    halving(trial)?;
+    courses(trial)
 }
