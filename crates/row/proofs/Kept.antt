@@ -1,5 +1,5 @@
 -- What a row keeps, from what it lists.
-use Rattle.std.proofs.Common.{◌≡◌, ℕ, zero, suc, ◌+◌, ◌^◌, ◌<◌, ◌≤◌, T, [], ◌∷◌, length, get_or, take, ℤ, Some, sym, refl, ap, ◌∙◌, subst, arith}
+use Rattle.std.proofs.Common.{◌≡◌, ℕ, zero, suc, ◌+◌, ◌^◌, ◌<◌, ◌≤◌, T, [], ◌∷◌, length, get_or, slice_get, take, ℤ, Some, sym, refl, ap, ◌∙◌, subst, arith}
 use Rattle.std.proofs.lemmas.List.{length-take-le, get_or-take}
 use Rattle.index.specs.Index.{in_index_range}
 use Rattle.store.specs.Pairs.{Pairs, rising, counted, ranged, total, Means, pair_at, without_lowest}
@@ -31,6 +31,11 @@ row_at r k d h = sym (get_or-take r.size r.pairs k d h)
 pub row_pair : (r : Row) (k : ℕ) (d : ℤ × ℕ) → k < r.size → Some (get_or r.pairs k d) ≡ pair_at (row_pairs r) k
 row_pair r k d h =
     ap Some (row_at r k d h) ∙ sym (pair_at_in (row_pairs r) k d (let n = row_length r in omega arith))
+
+pub pair_at_get : (ps : Pairs) (k : ℕ) → slice_get ps k ≡ pair_at ps k
+pair_at_get [] k = refl
+pair_at_get (p ∷ ps) zero = refl
+pair_at_get (p ∷ ps) (suc k) = pair_at_get ps k
 
 -- the total without the lowest pair
 pub total_rest : (ps : Pairs) (d : ℤ × ℕ) → 0 < length ps → (get_or ps 0 d).1 + total (without_lowest ps) ≡ total ps

@@ -8,7 +8,6 @@ mod adding;
 mod as_store;
 mod halving;
 mod search;
-mod shift;
 #[cfg(test)]
 mod tests;
 

@@ -29,17 +29,15 @@ stands r i k f e = sought_ok i (row_pairs r) k (e ∙ ap (λ j. sought j (row_pa
 goes : (r : Row) (i : ℤ) (k : ℕ) → SFits w32 i → Err k ≡ sought (to_z w32 (of_z w32 i)) (row_pairs r) → (listed i (row_pairs r) ≡ false) × (place i (row_pairs r) ≡ k)
 goes r i k f e = sought_err i (row_pairs r) k (e ∙ ap (λ j. sought j (row_pairs r)) (back i f))
 
-pub raise_at-requires : goal.raise_at-requires
-raise_at-requires c =
+pub raise_at-requires-clause-within : goal.raise_at-requires-clause-within
+raise_at-requires-clause-within c =
     let r = c.args.self.now in
     let i = c.args.index in
     let h = stands r i c.in-Ok.position c.ranges.index c.in-Ok.ensures in
     let e = h.1 in
     let n = row_length r in
     let l = place_listed i (row_pairs r) h.0 in
-    let s = spare r c.if-self.false in
-    let m = c.args.self.now.sums in
-    record { within = omega arith; bounded = omega arith }
+    omega arith
 
 pub returns-in-Ok : goal.returns-in-Ok
 returns-in-Ok c =
@@ -54,12 +52,12 @@ returns-in-Ok c =
       raises = c.raise_at.ensures ∙ ap (λ j. raised j ps) at;
     }
 
-pub returns-then-self-eq-CAPACITY : goal.returns-then-self-eq-CAPACITY
-returns-then-self-eq-CAPACITY c =
+pub returns-in-Err : goal.returns-in-Err
+returns-in-Err c =
     let r = c.args.self.now in
     let i = c.args.index in
     let ps = row_pairs r in
-    let h = goes r i c.in-Err.position c.ranges.index c.in-Err.ensures in
+    let h = goes r i _ c.ranges.index c.in-Err.ensures in
     let n = row_length r in
     let e : r.size ≡ 320 = c.if-self-eq-CAPACITY.true in
     record {
@@ -67,15 +65,4 @@ returns-then-self-eq-CAPACITY c =
           no_room ps (row_room ps) i (ranges i _ c.ranges.index c.in_index_range.ensures c.if-not-in_index_range.false) (spare r c.if-self.false) (room_none i ps h.0 (omega arith))
           ∙ ap (λ j. Some (7, j)) (sym (back i c.ranges.index));
       unchanged = refl;
-    }
-
-pub returns-else-self-eq-CAPACITY : goal.returns-else-self-eq-CAPACITY
-returns-else-self-eq-CAPACITY c =
-    let r = c.args.self.now in
-    let i = c.args.index in
-    let ps = row_pairs r in
-    let n = row_length r in
-    record {
-      allowed = allowed ps (row_room ps) i (ranges i _ c.ranges.index c.in_index_range.ensures c.if-not-in_index_range.false) (spare r c.if-self.false) (room_below i ps (omega arith));
-      raises = c.insert.ensures ∙ ap (λ j. raised j ps) (back i c.ranges.index);
     }
