@@ -1,7 +1,8 @@
 -- A pair put behind the front part of a table, or joined to the last pair there.
-use Rattle.std.proofs.Common.{◌≡◌, ℕ, zero, suc, ◌+◌, ◌-◌, ◌<◌, ◌≤◌, [], ◌∷◌, ◌++◌, length, get_or, take, drop, set, ℤ, sym, refl, ap, ◌∙◌, add-one, arith}
+use Rattle.std.proofs.Common.{◌≡◌, ℕ, zero, suc, ◌+◌, ◌-◌, ◌<◌, ◌≤◌, [], ◌∷◌, ◌++◌, length, get_or, take, drop, set, ℤ, sym, refl, ap, ◌∙◌, arith}
 use native.Mathlib.Numerals.{unary_clauses}
-use Rattle.std.proofs.lemmas.List.{length-set, take_at, take_more, drop_at, drop-drop, drop-set-lt, get_or-drop}
+use Rattle.std.proofs.lemmas.Grind.{common_steps}
+use Rattle.std.proofs.lemmas.List.{length-set, take_at, take_more, drop-drop, get_or-drop}
 use Rattle.index.specs.Index.{halved}
 use Rattle.store.specs.Pairs.{Pairs, total, halved_pairs, joined_last}
 use Rattle.store.proofs.Parts.{joined_last_set, joined_last_push, halved_taken, total_append}
@@ -29,19 +30,16 @@ module _ (xs ys : Pairs) (n : ℕ) (a : ℤ × ℕ) (size : length xs ≡ n) whe
 
 -- the same stands behind the place n
 pub beyond : (xs ys ts : Pairs) (n : ℕ) → length xs ≡ n → drop 1 ys ≡ drop 1 (drop n ts) → drop (n + 1) (xs ++ ys) ≡ drop (n + 1) ts
-beyond xs ys ts n size e =
-    sym (drop-drop 1 n (xs ++ ys)) ∙ ap (drop 1) (drop_at xs ys n size) ∙ e ∙ drop-drop 1 n ts
+beyond xs ys ts n size e = grind (arith, common_steps, drop-drop 1 n (xs ++ ys), drop-drop 1 n ts)
 
 -- tables that agree from some place on
 pub drop_further : (xs ys : Pairs) (j k : ℕ) → j ≤ k → drop j xs ≡ drop j ys → drop k xs ≡ drop k ys
 drop_further xs ys j k h e =
     let s : j + (k - j) ≡ k = omega arith in
-    ap (λ n. drop n xs) (sym s) ∙ sym (drop-drop (k - j) j xs) ∙ ap (drop (k - j)) e ∙ drop-drop (k - j) j ys ∙ ap (λ n. drop n ys) s
+    grind (arith, drop-drop (k - j) j xs, drop-drop (k - j) j ys)
 
 pub drop_first : (xs ys : Pairs) (k : ℕ) (d : ℤ × ℕ) → drop k xs ≡ drop k ys → get_or xs k d ≡ get_or ys k d
-drop_first xs ys k d e =
-    let s : k + 0 ≡ k = omega arith in
-    ap (λ n. get_or xs n d) (sym s) ∙ sym (get_or-drop k xs 0 d) ∙ ap (λ zs. get_or zs 0 d) e ∙ get_or-drop k ys 0 d ∙ ap (λ n. get_or ys n d) s
+drop_first xs ys k d e = grind (arith, get_or-drop k xs 0 d, get_or-drop k ys 0 d)
 
 -- the total of a front part, one pair more and within a longer one
 pub total_more : (xs : Pairs) (k : ℕ) (d : ℤ × ℕ) → k < length xs → total (take (k + 1) xs) ≡ total (take k xs) + (get_or xs k d).1
@@ -52,7 +50,7 @@ pub total_front : (xs : Pairs) (m n : ℕ) → m ≤ n → total (take m xs) ≤
 total_front xs zero n h = omega arith
 total_front [] (suc m) n h = omega arith
 total_front (x ∷ xs) (suc m) zero h = absurd (omega arith)
-total_front (x ∷ xs) (suc m) (suc n) h = let l = total_front xs m n (omega arith) in omega arith
+total_front (x ∷ xs) (suc m) (suc n) h = omega (arith, total_front xs m n)
 
 -- the first k pairs of xs are halved into the front part of a table, and its pair at k is joined to them
 pub halved_step : (xs ys : Pairs) (k used : ℕ) (d : ℤ × ℕ) → k < length xs → take used ys ≡ halved_pairs (take k xs) → get_or ys k d ≡ get_or xs k d → joined_last (take used ys) (halved (get_or ys k d).0, (get_or ys k d).1) ≡ halved_pairs (take (k + 1) xs)

@@ -1,4 +1,4 @@
-use Rattle.std.proofs.Common.{◌≡◌, ℕ, ◌<◌, ◌≤◌, ◌+◌, length, take, set, ℤ, Err, sym, ap, ◌∙◌, arith, rules, w32, SFits, to_z, of_z}
+use Rattle.std.proofs.Common.{◌≡◌, ℕ, ◌<◌, ◌≤◌, ◌+◌, take, set, ℤ, Err, sym, ap, ◌∙◌, arith, rules, w32, SFits, to_z, of_z}
 use Rattle.std.specs.List.{insert, copy_within}
 use Rattle.std.proofs.lemmas.Int.{to_z-of_z}
 use Rattle.std.proofs.lemmas.List.{length-set}
@@ -7,11 +7,11 @@ use Rattle.store.proofs.Range.{ranged_raised}
 use Rattle.store.proofs.Raising.{means_raised, total_raised}
 use Rattle.row.specs.declared.Row.{Row}
 use Rattle.row.specs.Rows.{row_pairs, sought}
-use Rattle.row.proofs.Places.{place_within}
+use Rattle.row.proofs.Places.{place_within, sought_err}
 use Rattle.row.specs.Laws.{row_means}
 use Rattle.row.proofs.Kept.{kept, row_length}
 use Rattle.row.proofs.Moves.{inserted}
-use Rattle.row.proofs.Raising.{sought_err, raised_new}
+use Rattle.row.proofs.Raising.{raised_new}
 use Rattle.row.proofs.Row.insert.Goals as goal
 
 -- a place to insert is one of the row's, or the one after them
@@ -22,7 +22,9 @@ pub overflow_add-position : goal.overflow_add-position
 overflow_add-position c = let w = within c.args.self.now c.args.index c.args.position c.requires.place in let f = c.args.self.now.fits in search rules
 
 pub copy_within-requires-clause-start_le_end : goal.copy_within-requires-clause-start_le_end
-copy_within-requires-clause-start_le_end c = within c.args.self.now c.args.index c.args.position c.requires.place
+copy_within-requires-clause-start_le_end c =
+    let w = within c.args.self.now c.args.index c.args.position c.requires.place in
+    omega arith
 
 pub copy_within-requires-clause-dest_in_bounds : goal.copy_within-requires-clause-dest_in_bounds
 copy_within-requires-clause-dest_in_bounds c =

@@ -1,9 +1,8 @@
-use Rattle.std.proofs.Common.{◌≡◌, ◌+◌, ◌-◌, get_or, length, take, pos, sym, ap, ◌∙◌, arith}
-use Rattle.store.specs.Pairs.{total, without_lowest}
+use Rattle.std.proofs.Common.{◌-◌, get_or, length, take, pos, sym, ap, ◌∙◌, arith}
+use Rattle.store.specs.Pairs.{without_lowest}
 use Rattle.store.proofs.Parts.{without_lowest_is}
 use Rattle.store.proofs.Range.{ranged_taken}
 use Rattle.store.proofs.Taking.{means_taken}
-use Rattle.row.specs.declared.Row.{Row}
 use Rattle.row.specs.Rows.{row_pairs}
 use Rattle.row.specs.Laws.{row_means}
 use Rattle.row.proofs.Kept.{kept, row_length, total_rest}
