@@ -1,4 +1,4 @@
-use Rattle.std.proofs.Common.{get_or, pos, sym, ap, ◌∙◌, arith, w32}
+use Rattle.std.proofs.Common.{get_or, pos, sym, refl, ap, ◌∙◌, arith, w32}
 use Rattle.std.proofs.lemmas.Grind.{common_steps}
 use Rattle.std.proofs.lemmas.Int.{to_z-of_z}
 use Rattle.store.specs.Pairs.{raised}
@@ -28,4 +28,4 @@ pub returns-in-Err : goal.returns-in-Err
 returns-in-Err c =
     let h = sought_err _ (row_pairs c.args.self.now) _ c.in-Err.ensures in
     let size = row_length c.args.self.now in
-    grind (arith, common_steps, to_z-of_z)
+    record { because = grind (arith, common_steps, to_z-of_z); unchanged = refl }
