@@ -1,10 +1,8 @@
 -- What a row keeps, from what it lists.
-use Rattle.std.proofs.Common.{◌≡◌, ℕ, zero, suc, ◌+◌, ◌^◌, ◌<◌, ◌≤◌, T, [], ◌∷◌, length, get_or, take, ℤ, Some, sym, refl, ap, ◌∙◌, subst, arith}
-use Rattle.std.proofs.lemmas.List.{length-take-le, get_or-take}
+use Rattle.std.proofs.Common.{◌≡◌, ℕ, zero, suc, ◌+◌, ◌^◌, ◌<◌, ◌≤◌, T, [], ◌∷◌, length, get_or, slice_get, take, ℤ, sym, refl, ap, ◌∙◌, subst, arith, rules}
+use Rattle.std.proofs.lemmas.List.{length-take-le}
 use Rattle.index.specs.Index.{in_index_range}
 use Rattle.store.specs.Pairs.{Pairs, rising, counted, ranged, total, Means, pair_at, without_lowest}
-use Rattle.store.proofs.Parts.{pair_at_in}
-use Rattle.store.proofs.Range.{ranged_first, ranged_tail}
 use Rattle.row.specs.declared.Row.{Row}
 use Rattle.row.specs.Rows.{row_pairs}
 
@@ -24,13 +22,11 @@ kept t n s ps whole fits e m ranges sums = record {
 pub row_length : (r : Row) → length (row_pairs r) ≡ r.size
 row_length r = length-take-le r.size r.pairs (subst (λ k. r.size ≤ k) (sym r.whole) r.fits)
 
--- the pair at a position
-pub row_at : (r : Row) (k : ℕ) (d : ℤ × ℕ) → k < r.size → get_or r.pairs k d ≡ get_or (row_pairs r) k d
-row_at r k d h = sym (get_or-take r.size r.pairs k d h)
-
-pub row_pair : (r : Row) (k : ℕ) (d : ℤ × ℕ) → k < r.size → Some (get_or r.pairs k d) ≡ pair_at (row_pairs r) k
-row_pair r k d h =
-    ap Some (row_at r k d h) ∙ sym (pair_at_in (row_pairs r) k d (let n = row_length r in omega arith))
+-- the pair at a position, as `get` reads it
+pub pair_at_get : (ps : Pairs) (k : ℕ) → slice_get ps k ≡ pair_at ps k
+pair_at_get [] k = refl
+pair_at_get (p ∷ ps) zero = refl
+pair_at_get (p ∷ ps) (suc k) = pair_at_get ps k
 
 -- the total without the lowest pair
 pub total_rest : (ps : Pairs) (d : ℤ × ℕ) → 0 < length ps → (get_or ps 0 d).1 + total (without_lowest ps) ≡ total ps
@@ -40,5 +36,5 @@ total_rest (p ∷ ps) d h = refl
 -- every listed index is in range
 pub ranged_at : (ps : Pairs) (k : ℕ) (d : ℤ × ℕ) → T (ranged ps) → k < length ps → T (in_index_range (get_or ps k d).0)
 ranged_at [] k d r h = absurd (omega arith)
-ranged_at (p ∷ ps) zero d r h = ranged_first p ps r
-ranged_at (p ∷ ps) (suc k) d r h = ranged_at ps k d (ranged_tail p ps r) (omega arith)
+ranged_at (p ∷ ps) zero d r h = search rules
+ranged_at (p ∷ ps) (suc k) d r h = grind (arith, ranged_at ps k d)

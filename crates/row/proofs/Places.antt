@@ -1,106 +1,73 @@
--- The place of an index in a rising list of pairs.
-use Rattle.std.proofs.Common.{◌≡◌, ℕ, zero, suc, ◌<◌, ◌≤◌, true, false, cond, T, [], ◌∷◌, length, get_or, take, ℤ, ◌≤ℤ◌, ◌<ℤ◌, Ok, Err, sym, refl, ap, ◌∙◌, subst, inl, inr, arith}
-use Rattle.std.proofs.lemmas.List.{length-take-le, get_or-take}
-use Rattle.std.proofs.lemmas.Int.{ints, by_lt_z}
-use Rattle.std.proofs.lemmas.Bool.{or_cases, or_left, or_right, both_ways}
-use Rattle.store.specs.Pairs.{Pairs, same, rising, listed}
-use Rattle.store.proofs.Order.{same_itself, above_same, below_lt_z, not_lt_z}
-use Rattle.store.proofs.Parts.{above_at}
+-- The place of an index in a rising list of pairs, and how a search finds it.
+use Rattle.std.proofs.Common.{◌≡◌, ℕ, zero, suc, ◌+◌, ◌<◌, ◌≤◌, ◌≢◌, true, false, T, [], ◌∷◌, length, get_or, ℤ, pos, ◌≤ℤ◌, ◌<ℤ◌, Ok, Err, Result, sym, refl, subst, inl, inr, arith}
+use Rattle.std.specs.Ordering.{int_cmp, is_lt}
+use Rattle.std.specs.List.Sorted.{IsSearchInRange, IsBinarySearchResult}
+use Rattle.std.proofs.lemmas.Int.{ints}
+use Rattle.std.proofs.lemmas.Bool.{both_ways, cases_lt}
+use Rattle.std.proofs.lemmas.Cmp.{int_ranked, int_cmp_total}
+use Rattle.std.proofs.lemmas.List.Sorted.{searchable_from_sorted}
+use Rattle.store.specs.Pairs.{Pairs, rising, listed}
+use Rattle.store.proofs.Order.{same_not, above_same}
 use Rattle.store.proofs.Bounds.{above_less, rising_tail, rising_above, unlisted_above}
+use Rattle.store.proofs.Parts.{listed_at, rising_order}
 use Rattle.row.specs.Rows.{place, sought}
-
--- by where the first index lies
-pub place_past : (i : ℤ) (p : ℤ × ℕ) (ps : Pairs) → p.0 <ℤ i → place i (p ∷ ps) ≡ suc (place i ps)
-place_past i p ps h = ap (λ b. cond b (suc (place i ps)) 0) (below_lt_z p.0 i h)
-
-pub place_first : (i : ℤ) (p : ℤ × ℕ) (ps : Pairs) → i ≤ℤ p.0 → place i (p ∷ ps) ≡ 0
-place_first i p ps h = ap (λ b. cond b (suc (place i ps)) 0) (not_lt_z p.0 i h)
-
-pub listed_past : (i : ℤ) (p : ℤ × ℕ) (ps : Pairs) → p.0 <ℤ i → listed i (p ∷ ps) ≡ true → listed i ps ≡ true
-listed_past i p ps h e =
-    elim (or_cases (same i p.0) (listed i ps) e)
-    [ inl s ↦ absurd (both_ways (same i p.0) (above_same i p.0 h) s) | inr t ↦ t ]
 
 pub place_within : (i : ℤ) (ps : Pairs) → place i ps ≤ length ps
 place_within i [] = omega arith
-place_within i (p ∷ ps) =
-    let ih = place_within i ps in
-    by_lt_z p.0 i
-    (λ h. let e = place_past i p ps h in omega arith)
-    (λ h. let e = place_first i p ps h in omega arith)
+place_within i (p ∷ ps) = grind (arith, place_within i ps)
 
 pub place_listed : (i : ℤ) (ps : Pairs) → listed i ps ≡ true → place i ps < length ps
 place_listed i [] e = absurd (both_ways false refl e)
-place_listed i (p ∷ ps) e =
-    let ih = place_listed i ps in
-    by_lt_z p.0 i
-    (λ h. let e' = place_past i p ps h in let l = ih (listed_past i p ps h e) in omega arith)
-    (λ h. let e' = place_first i p ps h in omega arith)
+place_listed i (p ∷ ps) e = grind (arith, ints, above_same i p.0, place_listed i ps)
 
--- an index below i at position k
-pub place_above : (i : ℤ) (ps : Pairs) (k : ℕ) (d : ℤ × ℕ) → T (rising ps) → k < length ps → (get_or ps k d).0 <ℤ i → k < place i ps
-place_above i [] k d r h l = absurd (omega arith)
-place_above i (p ∷ ps) zero d r h l = let e = place_past i p ps l in omega arith
-place_above i (p ∷ ps) (suc k) d r h l =
-    let first = above_at p.0 ps k d (rising_above p ps r) (omega arith) in
-    let e = place_past i p ps (omega (arith, ints)) in
-    let ih = place_above i ps k d (rising_tail p ps r) (omega arith) l in
-    omega arith
+-- an index below the first is not listed
+below_first : (i : ℤ) (p : ℤ × ℕ) (ps : Pairs) → T (rising (p ∷ ps)) → i <ℤ p.0 → listed i (p ∷ ps) ≡ false
+below_first i p ps r h = unlisted_above i (p ∷ ps) (h, above_less i p.0 ps (omega (arith, ints)) (rising_above p ps r))
 
--- i itself at position k
-pub record Stands (i : ℤ) (ps : Pairs) (k : ℕ) : Type 0 where
-  pub stands : listed i ps ≡ true
-  pub here : place i ps ≡ k
+-- a listed index stands at its place
+pub index_at_place : (i : ℤ) (ps : Pairs) (d : ℤ × ℕ) → T (rising ps) → listed i ps ≡ true → (get_or ps (place i ps) d).0 ≡ i
+index_at_place i [] d r e = absurd (both_ways false refl e)
+index_at_place i (p ∷ ps) d r e = grind (arith, ints, below_first i p ps r, above_same i p.0, index_at_place i ps d (rising_tail p ps r))
 
-pub place_at : (i : ℤ) (ps : Pairs) (k : ℕ) (d : ℤ × ℕ) → T (rising ps) → k < length ps → (get_or ps k d).0 ≡ i → Stands i ps k
-place_at i [] k d r h e = absurd (omega arith)
-place_at i (p ∷ ps) zero d r h e =
-    record { stands = or_left (same i p.0) (listed i ps) (subst (λ j. same i j ≡ true) (sym e) (same_itself i)); here = place_first i p ps (omega (arith, ints)) }
-place_at i (p ∷ ps) (suc k) d r h e =
-    let first = above_at p.0 ps k d (rising_above p ps r) (omega arith) in
-    let past = place_past i p ps (omega (arith, ints)) in
-    let ih = place_at i ps k d (rising_tail p ps r) (omega arith) e in
-    record { stands = or_right (same i p.0) (listed i ps) ih.stands; here = past ∙ ap suc ih.here }
+-- what an answer of a search tells
+pub sought_ok : (i : ℤ) (ps : Pairs) (k : ℕ) → Ok k ≡ sought i ps → (listed i ps ≡ true) × (place i ps ≡ k)
+sought_ok i ps k e = grind arith
 
--- an index above i at position k
-pub record Before (i : ℤ) (ps : Pairs) (k : ℕ) : Type 0 where
-  pub upto : place i ps ≤ k
-  pub if_listed : listed i ps ≡ true → place i ps < k
+pub sought_err : (i : ℤ) (ps : Pairs) (k : ℕ) → Err k ≡ sought i ps → (listed i ps ≡ false) × (place i ps ≡ k)
+sought_err i ps k e = grind arith
 
-pub place_before : (i : ℤ) (ps : Pairs) (k : ℕ) (d : ℤ × ℕ) → T (rising ps) → k < length ps → i <ℤ (get_or ps k d).0 → Before i ps k
-place_before i [] k d r h l = absurd (omega arith)
-place_before i (p ∷ ps) zero d r h l =
-    let e = place_first i p ps (omega (arith, ints)) in
-    let above = above_less i p.0 ps (omega (arith, ints)) (rising_above p ps r) in
-    record { upto = omega arith; if_listed = λ t. absurd (both_ways (listed i (p ∷ ps)) (unlisted_above i (p ∷ ps) (l, above)) t) }
-place_before i (p ∷ ps) (suc k) d r h l =
-    let ih = place_before i ps k d (rising_tail p ps r) (omega arith) l in
-    by_lt_z p.0 i
-    (λ q. let e = place_past i p ps q in
-    record { upto = let u = ih.upto in omega arith; if_listed = λ t. let u = ih.if_listed (listed_past i p ps q t) in omega arith })
-    (λ q. let e = place_first i p ps q in record { upto = omega arith; if_listed = λ t. omega arith })
+-- k indices lie below i, and the next one does not
+place_is : (i : ℤ) (ps : Pairs) (k : ℕ) (d : ℤ × ℕ) → k ≤ length ps → ((j : ℕ) → j < k → (get_or ps j d).0 <ℤ i) → (k < length ps → i ≤ℤ (get_or ps k d).0) → place i ps ≡ k
+place_is i [] zero d l below from = refl
+place_is i [] (suc k) d l below from = absurd (omega arith)
+place_is i (p ∷ ps) zero d l below from = grind (arith, ints, from)
+place_is i (p ∷ ps) (suc k) d l below from =
+    grind (arith, ints, below 0, place_is i ps k d (omega arith) (λ j m. below (suc j) (omega arith)) (λ m. from (omega arith)))
 
--- what a search answers
-pub sought_listed : (i : ℤ) (ps : Pairs) (k : ℕ) → Stands i ps k → Ok k ≡ sought i ps
-sought_listed i ps k s = cc (s.stands, s.here)
+-- no index is i
+unlisted : (i : ℤ) (ps : Pairs) (d : ℤ × ℕ) → ((j : ℕ) → j < length ps → i ≢ (get_or ps j d).0) → listed i ps ≡ false
+unlisted i [] d others = refl
+unlisted i (p ∷ ps) d others =
+    grind (arith, same_not i p.0 (others 0 (omega arith)), unlisted i ps d (λ j m. others (suc j) (omega arith)))
 
-pub sought_unlisted : (i : ℤ) (ps : Pairs) (k : ℕ) → listed i ps ≡ false → place i ps ≡ k → Err k ≡ sought i ps
-sought_unlisted i ps k n e =
-    ap Err (sym e) ∙ ap (λ b. cond b (Ok (place i ps)) (Err (place i ps))) (sym n)
+not_less : (a b : ℤ) → a <ℤ b → is_lt (int_cmp b a) ≡ false
+not_less a b h = grind (arith, ints)
 
--- the same in the first n pairs of a longer list, at an index read from it
-module _ (i : ℤ) (xs : Pairs) (n k : ℕ) (d : ℤ × ℕ) (r : T (rising (take n xs))) (fits : n ≤ length xs) (h : k < n) where
-  within : k < length (take n xs)
-  within = let e = length-take-le n xs fits in omega arith
-
-  read : (P : ℤ → Type 0) → P (get_or xs k d).0 → P (get_or (take n xs) k d).0
-  read P p = subst (λ q. P q.0) (sym (get_or-take n xs k d h)) p
-
-  pub front_above : (get_or xs k d).0 <ℤ i → k < place i (take n xs)
-  front_above l = place_above i (take n xs) k d r within (read (λ j. j <ℤ i) l)
-
-  pub front_at : (get_or xs k d).0 ≡ i → Stands i (take n xs) k
-  front_at e = place_at i (take n xs) k d r within (read (λ j. j ≡ i) e)
-
-  pub front_before : i <ℤ (get_or xs k d).0 → Before i (take n xs) k
-  front_before l = place_before i (take n xs) k d r within (read (λ j. i <ℤ j) l)
+-- a binary search by index finds where i stands, or where it would go
+pub searched : (i : ℤ) (ps : Pairs) → T (rising ps) → (r : Result ℕ ℕ) → IsSearchInRange r (length ps) → IsBinarySearchResult (λ p. int_cmp p.0 i) ps r → r ≡ sought i ps
+searched i ps rises (Ok k) within equal =
+    let d : ℤ × ℕ = (pos 0, 0) in
+    let here : (get_or ps k d).0 ≡ i = int_ranked _ i _ (sym (equal d)) in
+    let stands : listed i ps ≡ true = subst (λ j. listed j ps ≡ true) here (listed_at ps k d within) in
+    let at : place i ps ≡ k =
+    place_is i ps k d (omega arith) (λ j m. subst (λ x. (get_or ps j d).0 <ℤ x) here (rising_order ps j k d rises m within)) (λ m. omega (arith, ints)) in
+    cc
+searched i ps rises (Err k) within split =
+    let d : ℤ × ℕ = (pos 0, 0) in
+    let parts = split (searchable_from_sorted int_cmp_total (λ p. p.0) ps i (λ j e l m. not_less _ _ (rising_order ps j (j + 1) e rises (omega arith) m))) in
+    let below : (j : ℕ) → j < k → (get_or ps j d).0 <ℤ i = λ j m. int_ranked _ i _ (sym (parts.0 j d (omega arith) m)) in
+    let above : (j : ℕ) → k ≤ j → j < length ps → i <ℤ (get_or ps j d).0 = λ j l m. int_ranked _ i _ (sym (parts.1 j d l m)) in
+    let apart : listed i ps ≡ false =
+    unlisted i ps d (λ j m e. elim (cases_lt j k) [ inl l ↦ (let b = below j l in omega (arith, ints)) | inr l ↦ (let a = above j l m in omega (arith, ints)) ]) in
+    let at : place i ps ≡ k = place_is i ps k d within below (λ m. let a = above k (omega arith) m in omega (arith, ints)) in
+    cc

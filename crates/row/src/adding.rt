@@ -5,7 +5,6 @@ ghost use Rattle.store.specs.Pairs.{raised};
 ghost use Rattle.row.specs.Rows.{row_pairs, sought};
 
 use crate::Row;
-use crate::shift::insert_at;
 
 impl Row {
     // Raises the count at a position by one.
@@ -18,7 +17,7 @@ impl Row {
         self.total += 1;
     }
 
-    // Lists a new index at its place, with count 1.
+    // Lists a new index at its place, with count 1; the pairs from there on move up.
     pub(crate) fn insert(&mut self, position: usize, index: i32)
         requires place { sought index (row_pairs self.old) ≡ Err position }
         requires range { T (in_index_range index) }
@@ -26,7 +25,8 @@ impl Row {
         requires bounded { self.old.total + 1 < 2 ^ 64 }
         ensures { row_pairs self.new ≡ raised index (row_pairs self.old) }
     {
-        insert_at(&mut self.pairs, self.size, position, (index, 1));
+        self.pairs.copy_within(position..self.size, position + 1);
+        self.pairs[position] = (index, 1);
         self.size += 1;
         self.total += 1;
     }

@@ -4,7 +4,6 @@ ghost use Rattle.row.specs.Rows.{row_pairs, row_room};
 ghost use Rattle.row.specs.Laws.{row_means, row_ranged, row_roomy};
 
 use crate::halving::halve_all;
-use crate::shift::remove_first;
 use crate::{CAPACITY, Row};
 use index::in_index_range;
 use store::{BucketStore, StoreFault};
@@ -38,11 +37,7 @@ impl BucketStore for Row {
     }
 
     fn pair(&self, position: usize) -> Option<(i32, u64)> {
-        if position < self.size {
-            Some(self.pairs[position])
-        } else {
-            None
-        }
+        self.listed().get(position).copied()
     }
 
     fn has_room(&self, index: i32) -> bool {
@@ -58,28 +53,22 @@ impl BucketStore for Row {
         }
         match self.search(index) {
             Ok(position) => self.raise_at(position),
-            Err(position) => {
-                if self.size == CAPACITY {
-                    return Err(StoreFault::NoRoom(index));
-                }
-                self.insert(position, index);
-            }
+            Err(_) if self.size == CAPACITY => return Err(StoreFault::NoRoom(index)),
+            Err(position) => self.insert(position, index),
         }
         Ok(())
     }
 
     fn take_lowest(&mut self) -> Option<(i32, u64)> {
-        if self.size == 0 {
-            return None;
-        }
-        let lowest = self.pairs[0];
-        remove_first(&mut self.pairs, self.size);
+        let lowest = *self.listed().first()?;
+        self.pairs.copy_within(1..self.size, 0);
         self.size -= 1;
         self.total -= lowest.1;
         Some(lowest)
     }
 
     fn halve(&mut self) {
+        // The whole table is lent, since a lent part of a field gets no proof.
         self.size = halve_all(&mut self.pairs, self.size);
     }
 

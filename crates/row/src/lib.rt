@@ -8,7 +8,6 @@ mod adding;
 mod as_store;
 mod halving;
 mod search;
-mod shift;
 #[cfg(test)]
 mod tests;
 
@@ -17,6 +16,7 @@ pub const CAPACITY: usize = 320;
 
 #[derive(Clone, Copy)]
 pub struct Row {
+    // an array with a size, since a row is `Copy`, and `ArrayVec`, the vector of fixed capacity, is not
     pairs: [(i32, u64); CAPACITY],
     size: usize,
     // the sum of the listed counts

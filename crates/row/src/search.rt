@@ -5,24 +5,17 @@ ghost use Rattle.row.specs.Rows.{row_pairs, sought};
 use crate::Row;
 
 impl Row {
-    // The position of the index, or else the position where it would go: a binary search.
+    // The pairs that the row lists, lowest index first.
+    pub(crate) fn listed(&self) -> &[(i32, u64)]
+        ensures { result.now ≡ row_pairs self.now }
+    {
+        &self.pairs[..self.size]
+    }
+
+    // The position of the index, or else the position where it would go.
     pub fn search(&self, index: i32) -> Result<usize, usize>
         ensures { result ≡ sought index (row_pairs self.now) }
     {
-        let mut low = 0;
-        let mut high = self.size;
-        while low < high {
-            let middle = low + (high - low) / 2;
-            let here = self.pairs[middle].0;
-            if here == index {
-                return Ok(middle);
-            }
-            if here < index {
-                low = middle + 1;
-            } else {
-                high = middle;
-            }
-        }
-        Err(low)
+        self.listed().binary_search_by_key(&index, |pair| pair.0)
     }
 }

@@ -11,7 +11,7 @@ pub invariant_of-self : goal.invariant_of-self
 invariant_of-self c =
     let r = c.args.self.now in
     let ps = row_pairs r in
-    kept _ _ _ (halved_pairs ps) (c.halve_all-self.auto.table ∙ r.whole) (omega arith)
+    kept _ _ _ (halved_pairs ps) (c.halve_all-self.auto.pairs ∙ r.whole) (omega arith)
     c.halve_all-self.ensures.halves
     (means_halved ps (row_means r))
     (ranged_halved ps r.ranges)

@@ -1,13 +1,11 @@
-use Rattle.std.proofs.Common.{pos, sym, arith}
-use Rattle.store.proofs.Parts.{pair_at_past}
-use Rattle.row.specs.Rows.{row_pairs}
-use Rattle.row.proofs.Kept.{row_length, row_pair}
+use Rattle.std.proofs.Common.{◌≡◌, ap, ◌∙◌, slice_get, arith}
+use Rattle.std.proofs.lemmas.Grind.{common_steps}
+use Rattle.std.proofs.lemmas.Option.{gets}
+use Rattle.store.specs.Pairs.{pair_at}
+use Rattle.row.proofs.Kept.{pair_at_get}
 use Rattle.row.proofs.as_store.RowBucketStore.pair.Goals as goal
 
-pub returns-then-position-self : goal.returns-then-position-self
-returns-then-position-self c = row_pair c.args.self.now c.args.position (pos 0, 0) c.if-position-self.true
-
-pub returns-else-position-self : goal.returns-else-position-self
-returns-else-position-self c =
-    let n = row_length c.args.self.now in
-    sym (pair_at_past (row_pairs c.args.self.now) c.args.position (omega arith))
+pub returns : goal.returns
+returns c =
+    let read : c.copied.result ≡ slice_get c.listed.result.now c.args.position = grind (arith, common_steps, gets) in
+    read ∙ pair_at_get c.listed.result.now c.args.position ∙ ap (λ ps. pair_at ps c.args.position) c.listed.ensures
