@@ -24,12 +24,10 @@ pub record Window (counters : List ℕ) (first span size sum : ℕ) : Type 0 whe
   pub summed : sum ≡ total (listing (counter counters) first span)
   pub bounded : sum < 2 ^ 64
 
--- the same, as a run is asked for them
+-- those that a run keeps besides its window's own
 abbrev pub Kept : List ℕ → ℕ → ℕ → ℕ → ℕ → Type 0
 Kept counters first span size sum =
     record {
-      width : span ≤ 512;
-      reach : first + span ≤ positions;
       low : 0 < span → 0 < counter counters first;
       high : 0 < span → 0 < counter counters (first + span - 1);
       unused : (k : ℕ) → first + span ≤ k → k < first + 512 → counter counters k ≡ 0;
@@ -38,24 +36,11 @@ Kept counters first span size sum =
       bounded : sum < 2 ^ 64;
     }
 
-pub kept : {counters : List ℕ} {first span size sum : ℕ} → Window counters first span size sum → Kept counters first span size sum
-kept w =
-    record {
-      width = w.width;
-      reach = w.reach;
-      low = w.low;
-      high = w.high;
-      unused = w.unused;
-      sized = w.sized;
-      summed = w.summed;
-      bounded = w.bounded;
-    }
-
-pub window_of : (run : Run) → Window run.counters run.first run.span run.size run.total
+pub window_of : (run : Run) → Window run.counters run.window.first run.window.span run.size run.total
 window_of run =
     record {
-      width = run.width;
-      reach = run.reach;
+      width = run.window.width;
+      reach = run.window.reach;
       low = run.low;
       high = run.high;
       unused = run.unused;
@@ -65,11 +50,9 @@ window_of run =
     }
 
 -- nothing listed
-pub window_new : Window (replicate 512 0) 0 0 0 0
-window_new =
+pub kept_new : Kept (replicate 512 0) 0 0 0 0
+kept_new =
     record {
-      width = omega arith;
-      reach = omega arith;
       low = λ h. omega arith;
       high = λ h. omega arith;
       unused = λ k h l. counter_replicate k;
