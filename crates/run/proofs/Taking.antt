@@ -1,5 +1,5 @@
 -- What a window keeps when its lowest index is taken.
-use Rattle.std.proofs.Common.{◌≡◌, ℕ, suc, ◌+◌, ◌-◌, ◌%◌, ◌<◌, List, length, set, ℤ, Some, sym, ap, ◌∙◌, ⊎_elim, arith}
+use Rattle.std.proofs.Common.{◌≡◌, ℕ, suc, ◌+◌, ◌-◌, ◌%◌, ◌<◌, ◌≤◌, List, length, set, ℤ, Some, sym, ap, ◌∙◌, ⊎_elim, arith}
 use Rattle.std.proofs.lemmas.Bool.{cases_eq, cases_lt}
 use Rattle.store.specs.Pairs.{total, lowest, without_lowest}
 use Rattle.run.specs.Window.{index_of, counter, put_count, listing, Next}
@@ -7,33 +7,44 @@ use Rattle.run.specs.Listings.{listing_same, listing_below, lowest_here, without
 use Rattle.run.specs.Circle.{counter_same_place, counter_set_same, counter_set_other}
 use Rattle.run.specs.Windows.{Window, Kept}
 
-module _ {cs : List ℕ} {first span size sum : ℕ} (w : Window cs first span size sum) (some : 0 < span) where
+-- the window's ends, and the lowest pair
+module _ {cs : List ℕ} {first span size sum at top : ℕ} {p : ℤ × ℕ} (w : Window cs first span size sum) (ends : (0 < span) × (at ≡ first) × (top ≡ first + span - 1)) (here : p ≡ (index_of at, counter cs at)) where
+  lowest_pair : p ≡ (index_of first, counter cs first)
+  lowest_pair = here ∙ ap (λ a. (index_of a, counter cs a)) ends.1
+
   first_listed : listing (counter cs) first span ≡ put_count (index_of first) (counter cs first) (listing (counter cs) (first + 1) (span - 1))
   first_listed = let q : span ≡ suc (span - 1) = omega arith in ap (listing (counter cs) first) q
 
   -- the size and the sum are those of the lowest pair and of the others
-  pub size_parts : size ≡ 1 + length (listing (counter cs) (first + 1) (span - 1))
+  size_parts : size ≡ 1 + length (listing (counter cs) (first + 1) (span - 1))
   size_parts =
       let a = w.sized in
       let b = ap length first_listed in
       let d = length_counted (index_of first) (counter cs first) (listing (counter cs) (first + 1) (span - 1)) in
-      let one = used_more (counter cs first) (w.low some) in
+      let one = used_more (counter cs first) (w.low ends.0) in
       omega arith
 
-  pub sum_parts : sum ≡ counter cs first + total (listing (counter cs) (first + 1) (span - 1))
+  sum_parts : sum ≡ counter cs first + total (listing (counter cs) (first + 1) (span - 1))
   sum_parts =
       w.summed
       ∙ ap total first_listed
       ∙ total_counted (index_of first) (counter cs first) (listing (counter cs) (first + 1) (span - 1))
 
-  pub takes_lowest : (i : ℤ) (c : ℕ) → i ≡ index_of first → c ≡ counter cs first → Some (i, c) ≡ lowest (listing (counter cs) first span)
-  takes_lowest i c e d =
-      let here = lowest_here (index_of first) (counter cs first) (listing (counter cs) (first + 1) (span - 1)) (w.low some) in
-      let all = ap lowest first_listed in
-      cc
+  pub takes_lowest : Some p ≡ lowest (listing (counter cs) first span)
+  takes_lowest =
+      ap Some lowest_pair
+      ∙ sym
+      (ap lowest first_listed
+      ∙ lowest_here (index_of first) (counter cs first) (listing (counter cs) (first + 1) (span - 1)) (w.low ends.0))
+
+  pub takes_size : 1 ≤ size
+  takes_size = let parts = size_parts in omega arith
+
+  pub takes_sum : p.1 ≤ sum
+  takes_sum = let parts = sum_parts in let c = ap (λ q. q.1) lowest_pair in omega arith
 
   -- the window is left from the next used counter on
-  module _ (long : length cs ≡ 512) {at next first' span' : ℕ} (e : at ≡ first) (n : Next (counter cs) (at + 1) (first + span) next) (f : first' ≡ next) (s : span' ≡ first + span - next) where
+  module _ (long : length cs ≡ 512) {next first' span' : ℕ} (n : Next (counter cs) (at + 1) (first + span) next) (f : first' ≡ next) (s : span' ≡ first + span - next) where
     -- the counters after
     abbrev after : ℕ → ℕ
     after = counter (set cs (at % 512) 0)
@@ -62,10 +73,10 @@ module _ {cs : List ℕ} {first span size sum : ℕ} (w : Window cs first span s
         rest_kept
         ∙ sym
         (ap without_lowest first_listed
-        ∙ without_here (index_of first) (counter cs first) (listing (counter cs) (first + 1) (span - 1)) (w.low some))
+        ∙ without_here (index_of first) (counter cs first) (listing (counter cs) (first + 1) (span - 1)) (w.low ends.0))
 
-    pub takes_kept : (c : ℕ) → c ≡ counter cs first → Kept (set cs (at % 512) 0) first' span' (size - 1) (sum - c)
-    takes_kept c d =
+    pub takes_kept : Kept (set cs (at % 512) 0) first' span' (size - 1) (sum - p.1)
+    takes_kept =
         let from = n.from in
         let to = n.to in
         let wide = w.width in
@@ -74,7 +85,7 @@ module _ {cs : List ℕ} {first span size sum : ℕ} (w : Window cs first span s
           high = λ h.
               let q : first' + span' - 1 ≡ first + span - 1 = omega arith in
               let x = other_counter (first + span - 1) (omega arith) (omega arith) in
-              let y = w.high some in
+              let y = w.high ends.0 in
               let z = ap after q in
               omega arith;
           unused = λ k h l.
@@ -88,6 +99,6 @@ module _ {cs : List ℕ} {first span size sum : ℕ} (w : Window cs first span s
               (cases_eq (k - 512) at))
               (cases_lt k (first + 512));
           sized = let a = size_parts in let b = ap length rest_kept in omega arith;
-          summed = let a = sum_parts in let b = ap total rest_kept in omega arith;
+          summed = let a = sum_parts in let b = ap total rest_kept in let d = ap (λ q. q.1) lowest_pair in omega arith;
           bounded = let a = w.bounded in omega arith;
         }

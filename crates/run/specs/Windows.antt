@@ -4,12 +4,12 @@ use Rattle.std.proofs.Common.{sym, ap, subst, ◌∙◌, ⊎_elim, arith, lit<}
 use Rattle.std.specs.Int.{int_max, int_min}
 use Rattle.std.proofs.lemmas.Int.{ints}
 use Rattle.std.proofs.lemmas.Bool.{cases_eq}
-use Rattle.store.specs.Pairs.{Means, total, listed}
+use Rattle.store.specs.Pairs.{Means, total, listed, ranged}
 use Rattle.store.specs.Stores.{Roomy}
 use Rattle.store.proofs.Order.{true_T}
 use Rattle.run.specs.declared.Run.{Run}
 use Rattle.run.specs.Window.{positions, index_of, counter, listing, fits_window}
-use Rattle.run.specs.Listings.{rising_listing, counted_listing}
+use Rattle.run.specs.Listings.{rising_listing, counted_listing, ranged_listing}
 use Rattle.run.specs.Circle.{counter_replicate}
 use Rattle.run.specs.Rooms.{lowest_listing, highest_listing, room_between, room_empty, listed_within}
 
@@ -79,6 +79,9 @@ window_means {cs} {first} {span} w =
       counts = counted_listing (counter cs) first span;
       bounded = let e = w.summed in let h = w.bounded in omega arith;
     }
+
+pub window_ranged : {cs : List ℕ} {first span size sum : ℕ} → Window cs first span size sum → T (ranged (listing (counter cs) first span))
+window_ranged {cs} {first} {span} w = ranged_listing (counter cs) first span w.reach
 
 pub window_roomy : {cs : List ℕ} {first span size sum : ℕ} → Window cs first span size sum → Roomy (listing (counter cs) first span) (fits_window (listing (counter cs) first span))
 window_roomy {cs} {first} {span} w =

@@ -4,8 +4,7 @@ ghost use Rattle.std.specs.Result.{result_err};
 ghost use Rattle.store.specs.Stores.{add_refusal};
 ghost use Rattle.run.specs.Runs.{pairs_of, room_of, told};
 ghost use Rattle.run.specs.Window.{positions, index_of, counter, raised_by, Near, Widened, Next};
-ghost use Rattle.run.specs.Windows.{window_of, window_means, window_roomy};
-ghost use Rattle.run.specs.Listings.{ranged_listing};
+ghost use Rattle.run.specs.Windows.{window_of, window_means, window_ranged, window_roomy};
 
 use crate::places::{Position, Window};
 use crate::{PLACES, Run};
@@ -17,12 +16,12 @@ const REACH: i32 = 511;
 
 impl Run {
     // A run that lists nothing.
-    pub fn new() -> Run
+    pub fn new() -> Self
         ensures { pairs_of result ≡ [] }
     {
         Run {
             counters: [0; PLACES],
-            window: Window { first: 0, span: 0 },
+            window: Window::EMPTY,
             size: 0,
             total: 0,
         }
@@ -60,16 +59,15 @@ impl Run {
     }
 
     // Raises the count at a position.
-    fn raise(&mut self, at: Position, by: u64)
+    fn raise(&mut self, position: Position, by: u64)
         requires more { 0 < by }
         requires fits { self.old.total + by < 2 ^ 64 }
-        requires near { Near self.old.window.first self.old.window.span at.at }
-        ensures pairs { pairs_of self.new ≡ raised_by (index_of at.at) by (pairs_of self.old) }
-        ensures total { self.new.total ≡ self.old.total + by }
-        ensures window { Widened self.old.window.first self.old.window.span at.at self.new.window.first self.new.window.span }
+        requires near { Near self.old.window.first self.old.window.span position.at }
+        ensures pairs { pairs_of self.new ≡ raised_by (index_of position.at) by (pairs_of self.old) }
+        ensures window { Widened self.old.window.first self.old.window.span position.at self.new.window.first self.new.window.span }
     {
-        self.window = self.window.widened(at);
-        let place = at.at % PLACES;
+        self.window = self.window.widened(position);
+        let place = position.at % PLACES;
         if self.counters[place] == 0 {
             self.size += 1;
         }
@@ -87,6 +85,14 @@ impl Run {
     }
 }
 
+impl Default for Run {
+    ghost is_default = { λ run. pairs_of run ≡ [] };
+
+    fn default() -> Self {
+        Run::new()
+    }
+}
+
 impl BucketStore for Run {
     ghost pairs = { pairs_of };
 
@@ -94,7 +100,7 @@ impl BucketStore for Run {
 
     ghost means = { λ run. window_means (window_of run) };
 
-    ghost in_range = { λ run. ranged_listing (counter run.counters) run.window.first run.window.span run.window.reach };
+    ghost in_range = { λ run. window_ranged (window_of run) };
 
     ghost roomy = { λ run. window_roomy (window_of run) };
 

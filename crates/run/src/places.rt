@@ -1,9 +1,8 @@
 // Positions: indices counted from the lowest index of all schemas, and windows of them.
-ghost use Rattle.std.specs.Prelude.{◌≡◌, ◌+◌, ◌-◌, ◌%◌, ◌<◌, ◌≤◌, T, MatchOption};
+ghost use Rattle.std.specs.Prelude.{◌≡◌, ◌+◌, ◌-◌, ◌<◌, ◌≤◌, T, MatchOption};
 ghost use Rattle.index.specs.Index.{in_index_range, halved};
 ghost use Rattle.run.specs.Window.{positions, index_of, coarse, Near, Widened};
 
-use crate::PLACES;
 use index::{LOWEST_INDEX, coarser_index};
 use std::ops::Range;
 
@@ -20,6 +19,7 @@ impl Position {
         requires { T (in_index_range index) }
         ensures { index_of result.at ≡ index }
     {
+        // i32 and usize convert into each other by no From; that nothing is lost is proved
         Position {
             at: (index - LOWEST_INDEX) as usize,
         }
@@ -29,6 +29,7 @@ impl Position {
     pub(crate) fn index(self) -> i32
         ensures { result ≡ index_of self.at }
     {
+        // by no From, as above
         LOWEST_INDEX + self.at as i32
     }
 
@@ -52,6 +53,9 @@ pub(crate) struct Window {
 }
 
 impl Window {
+    // The window of no position.
+    pub(crate) const EMPTY: Window = Window { first: 0, span: 0 };
+
     // The position after the last.
     pub(crate) fn end(self) -> usize
         ensures { result ≡ self.first + self.span }
@@ -88,21 +92,26 @@ impl Window {
     }
 
     // Widened so far that it holds the position too.
-    pub(crate) fn widened(self, at: Position) -> Window
-        requires { Near self.first self.span at.at }
-        ensures { Widened self.first self.span at.at result.first result.span }
+    pub(crate) fn widened(self, position: Position) -> Window
+        requires { Near self.first self.span position.at }
+        ensures { Widened self.first self.span position.at result.first result.span }
     {
+        // by branches, since `min` and `max` make an add take a twentieth longer
+        let at = position.at;
         if self.span == 0 {
-            return Window {
-                first: at.at,
-                span: 1,
-            };
-        }
-        let first = self.first.min(at.at);
-        let end = self.end().max(at.at + 1);
-        Window {
-            first,
-            span: end - first,
+            Window { first: at, span: 1 }
+        } else if at < self.first {
+            Window {
+                first: at,
+                span: self.end() - at,
+            }
+        } else if at < self.end() {
+            self
+        } else {
+            Window {
+                first: self.first,
+                span: at - self.first + 1,
+            }
         }
     }
 }

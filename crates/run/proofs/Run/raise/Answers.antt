@@ -20,14 +20,14 @@ overflow_add-self-2 c =
     let run = c.args.self.now in
     let part = counter_part (window_of run) c.widened-self.ensures in
     let fits = c.requires.fits in
-    let small : counter run.counters c.args.at.at + c.args.by < 2 ^ 64 = omega arith in
+    let small : counter run.counters c.args.position.at + c.args.by < 2 ^ 64 = omega arith in
     search rules
 
 pub invariant_of-self : goal.invariant_of-self
 invariant_of-self c =
     let run = c.args.self.now in
     let long : length run.counters ≡ 512 = search rules in
-    let at = c.args.at.at in
+    let at = c.args.position.at in
     let counts : c.if-self-place-eq0.self.1.1.1.0 + used (counter run.counters at) ≡ run.size + 1 =
     elim c.if-self-place-eq0.branch [
       | then-self-place-eq0 w ↦
