@@ -6,11 +6,11 @@ use Rattle.std.proofs.lemmas.Bool.Decides.{nat_tests}
 use Rattle.index.specs.Index.{in_index_range}
 use Rattle.store.specs.Pairs.{Pairs, total}
 use Rattle.store.specs.Stores.{Room, add_refusal}
-use Rattle.run.specs.Window.{index_of, counter, listing, raised_by, fits_window, Near, Widened}
+use Rattle.run.specs.Window.{positions, index_of, counter, listing, raised_by, fits_window, Near, Widened}
 use Rattle.run.specs.Listings.{listing_none, listing_below, listing_above, listing_raised, used, used_more, total_listing, length_listing, sum_change, sum_part}
 use Rattle.run.specs.Circle.{counter_same_place, counter_all_unused, counter_set_same, counter_set_other}
 use Rattle.run.specs.Rooms.{room_below}
-use Rattle.run.specs.Windows.{Window, Kept, window_room}
+use Rattle.run.specs.Windows.{Window, window_room}
 
 -- an index that nothing refuses
 pub unrefused : (ps : Pairs) (room : Room) (i : ℤ) → add_refusal ps room i ≡ None → (in_index_range i ≡ true) × (total ps < 2 ^ 64 - 1) × (room i ≡ true)
@@ -100,13 +100,16 @@ module _ {cs : List ℕ} {first span size sum at first' span' : ℕ} (w : Window
         (λ k h l n. other_counter k h (omega arith) n)
         ∙ ap (raised_by (index_of at) by) listing_widened
 
-    pub raises_kept : (size' : ℕ) → size' + used (counter cs at) ≡ size + 1 → sum + by < 2 ^ 64 → Kept (set cs (at % 512) (counter cs at + by)) first' span' size' (sum + by)
-    raises_kept size' counts full =
+    pub raises_window : (size' : ℕ) → at < positions → size' + used (counter cs at) ≡ size + 1 → sum + by < 2 ^ 64 → Window (set cs (at % 512) (counter cs at + by)) first' span' size' (sum + by)
+    raises_window size' small counts full =
         let f = counter cs in
         let from = v.from in
         let to = v.to in
         let wide = v.wide in
+        let reach = w.reach in
         record {
+          width = wide;
+          reach = ⊎_elim (λ e. omega arith) (λ e. omega arith) v.high_end;
           low = λ h. still_used first' (omega arith) (omega arith)
               (⊎_elim inl (λ e. inr (subst (λ k. 0 < f k) (sym e.1) (w.low e.0))) v.low_end);
           high = λ h. still_used (first' + span' - 1) (omega arith) (omega arith)

@@ -5,7 +5,7 @@ use Rattle.store.specs.Pairs.{total, lowest, without_lowest}
 use Rattle.run.specs.Window.{index_of, counter, put_count, listing, Next}
 use Rattle.run.specs.Listings.{listing_same, listing_below, lowest_here, without_here, used_more, total_counted, length_counted}
 use Rattle.run.specs.Circle.{counter_same_place, counter_set_same, counter_set_other}
-use Rattle.run.specs.Windows.{Window, Kept}
+use Rattle.run.specs.Windows.{Window}
 
 -- the window's ends, and the lowest pair
 module _ {cs : List ℕ} {first span size sum at top : ℕ} {p : ℤ × ℕ} (w : Window cs first span size sum) (ends : (0 < span) × (at ≡ first) × (top ≡ first + span - 1)) (here : p ≡ (index_of at, counter cs at)) where
@@ -75,12 +75,15 @@ module _ {cs : List ℕ} {first span size sum at top : ℕ} {p : ℤ × ℕ} (w 
         (ap without_lowest first_listed
         ∙ without_here (index_of first) (counter cs first) (listing (counter cs) (first + 1) (span - 1)) (w.low ends.0))
 
-    pub takes_kept : Kept (set cs (at % 512) 0) first' span' (size - 1) (sum - p.1)
-    takes_kept =
+    pub takes_window : Window (set cs (at % 512) 0) first' span' (size - 1) (sum - p.1)
+    takes_window =
         let from = n.from in
         let to = n.to in
         let wide = w.width in
+        let reach = w.reach in
         record {
+          width = omega arith;
+          reach = omega arith;
           low = λ h. let x = other_counter first' (omega arith) (omega arith) in let y = n.here (omega arith) in let z = ap (counter cs) f in omega arith;
           high = λ h.
               let q : first' + span' - 1 ≡ first + span - 1 = omega arith in

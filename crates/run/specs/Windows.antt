@@ -24,7 +24,7 @@ pub record Window (counters : List ℕ) (first span size sum : ℕ) : Type 0 whe
   pub summed : sum ≡ total (listing (counter counters) first span)
   pub bounded : sum < 2 ^ 64
 
--- those that a run keeps besides its window's own
+-- the same, as a run is asked for them: the first two are its window's own
 abbrev pub Kept : List ℕ → ℕ → ℕ → ℕ → ℕ → Type 0
 Kept counters first span size sum =
     record {
@@ -34,6 +34,17 @@ Kept counters first span size sum =
       sized : size ≡ length (listing (counter counters) first span);
       summed : sum ≡ total (listing (counter counters) first span);
       bounded : sum < 2 ^ 64;
+    }
+
+pub kept : {counters : List ℕ} {first span size sum : ℕ} → Window counters first span size sum → Kept counters first span size sum
+kept w =
+    record {
+      low = w.low;
+      high = w.high;
+      unused = w.unused;
+      sized = w.sized;
+      summed = w.summed;
+      bounded = w.bounded;
     }
 
 pub window_of : (run : Run) → Window run.counters run.window.first run.window.span run.size run.total
@@ -50,9 +61,11 @@ window_of run =
     }
 
 -- nothing listed
-pub kept_new : Kept (replicate 512 0) 0 0 0 0
-kept_new =
+pub window_new : Window (replicate 512 0) 0 0 0 0
+window_new =
     record {
+      width = omega arith;
+      reach = omega arith;
       low = λ h. omega arith;
       high = λ h. omega arith;
       unused = λ k h l. counter_replicate k;

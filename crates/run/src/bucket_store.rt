@@ -120,7 +120,7 @@ impl BucketStore for Run {
         let Some((lowest, highest)) = self.window.ends() else {
             return true;
         };
-        highest.index() - REACH <= index && index <= lowest.index() + REACH
+        (highest.index() - REACH..=lowest.index() + REACH).contains(&index)
     }
 
     fn add(&mut self, index: i32) -> Result<(), StoreFault> {

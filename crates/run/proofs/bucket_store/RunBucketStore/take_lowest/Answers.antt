@@ -1,7 +1,7 @@
-use Rattle.std.proofs.Common.{◌≡◌, length, ap, ◌∙◌, Some, arith, w32, to_z, of_z, rules}
+use Rattle.std.proofs.Common.{◌≡◌, ap, ◌∙◌, Some, arith, w32, to_z, of_z, rules}
 use Rattle.std.proofs.lemmas.Int.{ints}
-use Rattle.run.specs.Windows.{window_of}
-use Rattle.run.proofs.Taking.{takes_size, takes_sum, takes_lowest, takes_rest, takes_kept}
+use Rattle.run.specs.Windows.{window_of, kept}
+use Rattle.run.proofs.Taking.{takes_size, takes_sum, takes_lowest, takes_rest, takes_window}
 use Rattle.run.proofs.bucket_store.RunBucketStore.take_lowest.Goals as goal
 
 pub overflow_sub-self : goal.overflow_sub-self
@@ -12,9 +12,9 @@ overflow_sub-self-2 c = takes_sum (window_of c.args.self.now) c.in_ok-lowest.ens
 
 pub invariant_of-self : goal.invariant_of-self
 invariant_of-self c =
-    let long : length c.args.self.now.counters ≡ 512 = search rules in
-    takes_kept (window_of c.args.self.now) c.in_ok-lowest.ensures c.bucket-index.ensures
-    long c.used_from-next.ensures c.from-self.ensures.first c.from-self.ensures.span
+    kept
+    (takes_window (window_of c.args.self.now) c.in_ok-lowest.ensures c.bucket-index.ensures
+    (search rules) c.used_from-next.ensures c.from-self.ensures.first c.from-self.ensures.span)
 
 pub returns-clause-answer : goal.returns-clause-answer
 returns-clause-answer c =
@@ -25,6 +25,5 @@ returns-clause-answer c =
 
 pub returns-clause-rest : goal.returns-clause-rest
 returns-clause-rest c =
-    let long : length c.args.self.now.counters ≡ 512 = search rules in
     takes_rest (window_of c.args.self.now) c.in_ok-lowest.ensures c.bucket-index.ensures
-    long c.used_from-next.ensures c.from-self.ensures.first c.from-self.ensures.span
+    (search rules) c.used_from-next.ensures c.from-self.ensures.first c.from-self.ensures.span
