@@ -14,12 +14,11 @@ filter-counted i zero ps qs e = e
 filter-counted i (suc c) ps qs e =
     cond-true (nat_lt 0 (suc c)) _ _ (grind arith) ∙ ap (λ rs. (i, suc c) ∷ rs) e
 
-pub filter-map-range : (f : ℕ → ℕ) (h : ℕ → ℤ × ℕ) (a n : ℕ) → ((k : ℕ) → a ≤ k → k < a + n → h k ≡ (index_of k, f k)) → filter is_counted (map h (range_with_len a n)) ≡ listing f a n
-filter-map-range f h a zero e = refl
-filter-map-range f h a (suc n) e =
-    ap (λ p. filter is_counted (p ∷ map h (range_with_len (a + 1) n))) (e a (omega arith) (omega arith))
-    ∙ filter-counted (index_of a) (f a) (map h (range_with_len (a + 1) n)) (listing f (a + 1) n)
-    (filter-map-range f h (a + 1) n (λ k l u. e k (omega arith) (omega arith)))
+pub filter-map-range : (f : ℕ → ℕ) (a n : ℕ) → filter is_counted (map (λ k. (index_of k, f k)) (range_with_len a n)) ≡ listing f a n
+filter-map-range f a zero = refl
+filter-map-range f a (suc n) =
+    filter-counted (index_of a) (f a) (map (λ k. (index_of k, f k)) (range_with_len (a + 1) n)) (listing f (a + 1) n)
+    (filter-map-range f (a + 1) n)
 
 pub slice_get-pairs : (ps : Pairs) (k : ℕ) → slice_get ps k ≡ pair_at ps k
 slice_get-pairs [] k = refl

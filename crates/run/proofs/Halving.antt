@@ -1,7 +1,7 @@
 -- What a run lists once its indices are halved: position by position, from the highest down.
 use Rattle.std.proofs.Common.{◌≡◌, ℕ, zero, suc, ◌+◌, ◌-◌, ◌<◌, ◌≤◌, [], refl, sym, ap, ◌∙◌, ⊎_elim, arith}
 use Rattle.index.specs.Index.{halved}
-use Rattle.store.specs.Pairs.{Pairs, total, joined, halved_pairs}
+use Rattle.store.specs.Pairs.{total, joined, halved_pairs}
 use Rattle.store.proofs.Halving.{total_halved}
 use Rattle.run.specs.Window.{index_of, put_count, listing, raised_by, Widened}
 use Rattle.run.specs.Listings.{listing_first, counted_used, raised_joined, sum_of, total_listing, sum_suffix, total_counted}
@@ -12,11 +12,6 @@ module _ (f : ℕ → ℕ) (a e end : ℕ) (s : a + 1 ≡ e) (l : e ≤ end) whe
   one_more =
       listing_first f a end (omega arith)
       ∙ ap (λ b. put_count (index_of a) (f a) (listing f b (end - b))) s
-
-  -- a counter of 0 is passed over
-  pub halves_unused : (ps : Pairs) → f a ≡ 0 → ps ≡ halved_pairs (listing f e (end - e)) → ps ≡ halved_pairs (listing f a (end - a))
-  halves_unused ps z p =
-      p ∙ sym (ap halved_pairs (one_more ∙ ap (λ c. put_count (index_of a) c (listing f e (end - e))) z))
 
   -- a count is raised at the halved index, which is below the others or the lowest
   pub halves_used : (g : ℕ → ℕ) (first' span' b : ℕ) → 0 < f a → index_of b ≡ halved (index_of a) → (0 < span' → b ≤ first') → listing g first' span' ≡ halved_pairs (listing f e (end - e)) → raised_by (index_of b) (f a) (listing g first' span') ≡ halved_pairs (listing f a (end - a))

@@ -134,7 +134,7 @@ impl BucketStore for Run {
         let (index, count) = self.bucket(lowest.at);
         let next = self.used_from(lowest.at + 1);
         self.counters[lowest.at % PLACES] = 0;
-        self.window = self.window.from(next);
+        self.window = self.window.starting_at(next);
         self.size -= 1;
         self.total -= count;
         Some((index, count))

@@ -79,8 +79,8 @@ impl Window {
         Some((Position { at: self.first }, Position { at: self.end() - 1 }))
     }
 
-    // The positions from this one on.
-    pub(crate) fn from(self, first: usize) -> Window
+    // What is left of it from this position on.
+    pub(crate) fn starting_at(self, first: usize) -> Window
         requires { (self.first ≤ first) × (first ≤ self.first + self.span) }
         ensures first { result.first ≡ first }
         ensures span { result.span ≡ self.first + self.span - first }

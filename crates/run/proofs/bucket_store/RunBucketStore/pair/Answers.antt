@@ -1,4 +1,4 @@
-use Rattle.std.proofs.Common.{◌+◌, arith, rules, sym, ap, ◌∙◌, refl}
+use Rattle.std.proofs.Common.{◌+◌, arith, rules, sym, ap, ◌∙◌}
 use borrow.Author.Tests.{tests}
 use Rattle.std.proofs.lemmas.Iterator.{YieldsList-from_range, YieldsList-from_map}
 use Rattle.std.proofs.lemmas.Iterator.Consumers.{nth_from_yields_List, YieldsList-from_filter, YieldsList-at}
@@ -20,5 +20,5 @@ returns c =
     (YieldsList-at c.map.ensures.source (YieldsList-from_range run.window.first (run.window.first + run.window.span) run.window.span c.positions.ensures (omega arith)))
     c.map.ensures.closure (λ x r q k. search (rules, tests))))
     c.filter.ensures.closure (λ x r q k. search (rules, tests)))
-    ∙ ap (λ ps. slice_get ps c.args.position) (filter-map-range count (λ a. (index_of a, count a)) run.window.first run.window.span (λ k l u. refl))
+    ∙ ap (λ ps. slice_get ps c.args.position) (filter-map-range count run.window.first run.window.span)
     ∙ slice_get-pairs _ c.args.position

@@ -14,7 +14,7 @@ pub invariant_of-self : goal.invariant_of-self
 invariant_of-self c =
     kept
     (takes_window (window_of c.args.self.now) c.in_ok-lowest.ensures c.bucket-index.ensures
-    (search rules) c.used_from-next.ensures c.from-self.ensures.first c.from-self.ensures.span)
+    (search rules) c.used_from-next.ensures c.starting_at-self.ensures.first c.starting_at-self.ensures.span)
 
 pub returns-clause-answer : goal.returns-clause-answer
 returns-clause-answer c =
@@ -26,4 +26,4 @@ returns-clause-answer c =
 pub returns-clause-rest : goal.returns-clause-rest
 returns-clause-rest c =
     takes_rest (window_of c.args.self.now) c.in_ok-lowest.ensures c.bucket-index.ensures
-    (search rules) c.used_from-next.ensures c.from-self.ensures.first c.from-self.ensures.span
+    (search rules) c.used_from-next.ensures c.starting_at-self.ensures.first c.starting_at-self.ensures.span
