@@ -1,3 +1,4 @@
-pub mod Adding
+pub mod Chain
+pub mod Raising
 pub mod Taking
 pub mod Halving

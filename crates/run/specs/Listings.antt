@@ -1,14 +1,14 @@
 -- What consecutive counters list.
-use Rattle.std.specs.Prelude.{◌≡◌, ℕ, zero, suc, ◌+◌, ◌-◌, ◌<◌, ◌≤◌, T, [], ◌∷◌, length, ℤ, pos, negsuc, ◌≤ℤ◌, ◌<ℤ◌, Some, Option, ◌≢◌, int_le, int_lt, refl}
-use Rattle.std.proofs.Common.{sym, ap, ◌∙◌, ⊎_elim, zero-add, add-zero, add-one, arith}
+use Rattle.std.specs.Prelude.{◌≡◌, ℕ, zero, suc, ◌+◌, ◌-◌, ◌<◌, ◌≤◌, T, [], ◌∷◌, length, cond, ℤ, pos, negsuc, ◌≤ℤ◌, ◌<ℤ◌, Some, Option, ◌≢◌, int_le, int_lt, refl}
+use Rattle.std.proofs.Common.{sym, ap, ◌∙◌, ⊎_elim, zero-add, add-zero, arith}
 use Rattle.std.proofs.lemmas.Int.{ints}
 use Rattle.std.proofs.lemmas.Bool.{cond-true, cond-false, cases_eq}
 use Rattle.index.specs.Index.{in_index_range}
 use Rattle.store.specs.Pairs.{Pairs, same, rising, counted, ranged, total, pair_at, raised, joined, lowest, without_lowest}
-use Rattle.store.proofs.Order.{same_itself, below_same, above_same, below_lt_z, not_lt_z}
+use Rattle.store.proofs.Order.{cases_index, same_itself, same_from, below_same, above_same, below_lt_z, not_lt_z}
 use Rattle.store.proofs.Bounds.{Above, T_and, rising_more, counted_more}
 use Rattle.store.proofs.Range.{ranged_more}
-use Rattle.run.specs.Window.{positions, index_of, put_count, listing}
+use Rattle.run.specs.Window.{positions, index_of, put_count, listing, raised_by}
 
 -- indices rise with their positions
 pub index_below : (a b : ℕ) → a < b → index_of a <ℤ index_of b
@@ -158,79 +158,85 @@ sum_part f a (suc n) i h l =
     (λ q. let rest = sum_part f (a + 1) n i (omega arith) (omega arith) in omega arith)
     (cases_eq a i)
 
--- a raised count
-raised_above : (i : ℤ) (ps : Pairs) → Above i ps → raised i ps ≡ (i, 1) ∷ ps
-raised_above i [] a = refl
-raised_above i (p ∷ ps) a = cond-true (int_lt i p.0) _ _ (below_lt_z i p.0 a.0)
-
-raised_here : (i : ℤ) (c : ℕ) (ps : Pairs) → Above i ps → raised i (put_count i c ps) ≡ put_count i (suc c) ps
-raised_here i zero ps a = raised_above i ps a
-raised_here i (suc c) ps a =
-    cond-false (int_lt i i) _ _ (not_lt_z i i (omega (arith, ints)))
-    ∙ cond-true (same i i) _ _ (same_itself i)
-    ∙ ap (λ n. (i, n) ∷ ps) (add-one (suc c))
-
-raised_later : (i j : ℤ) (c : ℕ) (ps : Pairs) → j <ℤ i → raised i (put_count j c ps) ≡ put_count j c (raised i ps)
-raised_later i j zero ps h = refl
-raised_later i j (suc c) ps h =
-    cond-false (int_lt i j) _ _ (not_lt_z i j (omega (arith, ints))) ∙ cond-false (same i j) _ _ (above_same i j h)
-
-pub listing_raised : (f g : ℕ → ℕ) (a n i : ℕ) → a ≤ i → i < a + n → g i ≡ f i + 1 → ((k : ℕ) → a ≤ k → k < a + n → (k ≢ i) → g k ≡ f k) → listing g a n ≡ raised (index_of i) (listing f a n)
-listing_raised f g a zero i h l r e = absurd (omega arith)
-listing_raised f g a (suc n) i h l r e =
-    ⊎_elim
-    (λ q.
-    let rest : listing g (a + 1) n ≡ listing f (a + 1) n =
-    listing_same g f (a + 1) n (λ k u v. e k (omega arith) (omega arith) (λ w. omega arith)) in
-    let x : f a ≡ f i = ap f q in
-    let y : g a ≡ g i = ap g q in
-    let here : g a ≡ suc (f a) = omega arith in
-    let up = raised_here (index_of a) (f a) (listing f (a + 1) n) (above_listing f (a + 1) n a (omega arith)) in
-    let place : index_of a ≡ index_of i = ap index_of q in
-    cc)
-    (λ q.
-    let here : g a ≡ f a = e a (omega arith) (omega arith) q in
-    let rest = listing_raised f g (a + 1) n i (omega arith) (omega arith) r (λ k u v w. e k (omega arith) (omega arith) w) in
-    let up = raised_later (index_of i) (index_of a) (f a) (listing f (a + 1) n) (index_below a i (omega arith)) in
-    cc)
-    (cases_eq a i)
-
 pub counted_used : (i : ℤ) (c : ℕ) (ps : Pairs) → 0 < c → put_count i c ps ≡ (i, c) ∷ ps
 counted_used i zero ps h = absurd (omega arith)
 counted_used i (suc c) ps h = refl
 
--- a pair joined to a list of higher indices, and one that meets the first
-joined_above : (p : ℤ × ℕ) (ps : Pairs) → Above p.0 ps → joined p ps ≡ p ∷ ps
-joined_above p [] a = refl
-joined_above p (q ∷ qs) a = cond-false (same p.0 q.0) _ _ (below_same p.0 q.0 a.0)
+-- a raised count
+raised_above : (i : ℤ) (c : ℕ) (ps : Pairs) → Above i ps → raised_by i c ps ≡ (i, c) ∷ ps
+raised_above i c [] a = refl
+raised_above i c (p ∷ ps) a = cond-true (int_lt i p.0) _ _ (below_lt_z i p.0 a.0)
 
-joined_here : (i : ℤ) (d c : ℕ) (ps : Pairs) → Above i ps → joined (i, suc d) (put_count i c ps) ≡ put_count i (suc d + c) ps
-joined_here i d zero ps a = joined_above (i, suc d) ps a ∙ ap (λ n. put_count i n ps) (sym (add-zero (suc d)))
-joined_here i d (suc c) ps a =
-    cond-true (same i i) _ _ (same_itself i)
-    ∙ sym (counted_used i (suc d + suc c) ps (omega arith))
+raised_here : (i : ℤ) (c d : ℕ) (ps : Pairs) → Above i ps → 0 < c → raised_by i c (put_count i d ps) ≡ put_count i (d + c) ps
+raised_here i zero d ps a h = absurd (omega arith)
+raised_here i (suc c) zero ps a h = raised_above i (suc c) ps a ∙ ap (λ n. put_count i n ps) (sym (zero-add (suc c)))
+raised_here i (suc c) (suc d) ps a h =
+    cond-false (int_lt i i) _ _ (not_lt_z i i (omega (arith, ints))) ∙ cond-true (same i i) _ _ (same_itself i) ∙ sym (counted_used i (suc d + suc c) ps (omega arith))
 
-pub listing_joined : (f g : ℕ → ℕ) (a n i d : ℕ) → a ≤ i → i < a + n → ((k : ℕ) → a ≤ k → k < i → f k ≡ 0) → g i ≡ f i + suc d → ((k : ℕ) → a ≤ k → k < a + n → (k ≢ i) → g k ≡ f k) → listing g a n ≡ joined (index_of i, suc d) (listing f a n)
-listing_joined f g a zero i d h l z r e = absurd (omega arith)
-listing_joined f g a (suc n) i d h l z r e =
+raised_later : (i j : ℤ) (c d : ℕ) (ps : Pairs) → j <ℤ i → raised_by i c (put_count j d ps) ≡ put_count j d (raised_by i c ps)
+raised_later i j c zero ps h = refl
+raised_later i j c (suc d) ps h =
+    cond-false (int_lt i j) _ _ (not_lt_z i j (omega (arith, ints))) ∙ cond-false (same i j) _ _ (above_same i j h)
+
+pub listing_raised : (f g : ℕ → ℕ) (a n i c : ℕ) → a ≤ i → i < a + n → 0 < c → g i ≡ f i + c → ((k : ℕ) → a ≤ k → k < a + n → (k ≢ i) → g k ≡ f k) → listing g a n ≡ raised_by (index_of i) c (listing f a n)
+listing_raised f g a zero i c h l m r e = absurd (omega arith)
+listing_raised f g a (suc n) i c h l m r e =
     ⊎_elim
     (λ q.
     let rest : listing g (a + 1) n ≡ listing f (a + 1) n =
     listing_same g f (a + 1) n (λ k u v. e k (omega arith) (omega arith) (λ w. omega arith)) in
     let x : f a ≡ f i = ap f q in
     let y : g a ≡ g i = ap g q in
-    let here : g a ≡ suc d + f a = omega arith in
-    let up = joined_here (index_of a) d (f a) (listing f (a + 1) n) (above_listing f (a + 1) n a (omega arith)) in
+    let here : g a ≡ f a + c = omega arith in
+    let up = raised_here (index_of a) c (f a) (listing f (a + 1) n) (above_listing f (a + 1) n a (omega arith)) m in
     let place : index_of a ≡ index_of i = ap index_of q in
     cc)
     (λ q.
-    let nought : f a ≡ 0 = z a (omega arith) (omega arith) in
-    let here : g a ≡ 0 = e a (omega arith) (omega arith) q ∙ nought in
-    let rest = listing_joined f g (a + 1) n i d (omega arith) (omega arith) (λ k u v. z k (omega arith) v) r (λ k u v w. e k (omega arith) (omega arith) w) in
-    ap (λ c. put_count (index_of a) c (listing g (a + 1) n)) here
-    ∙ rest
-    ∙ ap (λ c. joined (index_of i, suc d) (put_count (index_of a) c (listing f (a + 1) n))) (sym nought))
+    let here : g a ≡ f a = e a (omega arith) (omega arith) q in
+    let rest = listing_raised f g (a + 1) n i c (omega arith) (omega arith) m r (λ k u v w. e k (omega arith) (omega arith) w) in
+    let up = raised_later (index_of i) (index_of a) c (f a) (listing f (a + 1) n) (index_below a i (omega arith)) in
+    cc)
     (cases_eq a i)
+
+-- by one
+pub raised_one : (i : ℤ) (ps : Pairs) → raised_by i 1 ps ≡ raised i ps
+raised_one i [] = refl
+raised_one i (p ∷ ps) = ap (λ qs. cond (int_lt i p.0) ((i, 1) ∷ p ∷ ps) (cond (same i p.0) ((p.0, p.1 + 1) ∷ ps) (p ∷ qs))) (raised_one i ps)
+
+-- below every listed index or at the lowest, as a pair is joined
+joined_counted : (i j : ℤ) (c d : ℕ) (ps : Pairs) → i ≤ℤ j → raised_by i c ps ≡ joined (i, c) ps → raised_by i c (put_count j d ps) ≡ joined (i, c) (put_count j d ps)
+joined_counted i j c zero ps h e = e
+joined_counted i j c (suc d) ps h e =
+    ⊎_elim
+    (λ b. cond-true (int_lt i j) _ _ (below_lt_z i j b) ∙ sym (cond-false (same i j) _ _ (below_same i j b)))
+    (⊎_elim
+    (λ q.
+    let up = cond-false (int_lt i j) ((i, c) ∷ (j, suc d) ∷ ps) _ (not_lt_z i j (omega (arith, ints))) ∙ cond-true (same i j) ((j, suc d + c) ∷ ps) ((j, suc d) ∷ raised_by i c ps) (same_from i j q) in
+    let front = cond-true (same i j) ((i, c + suc d) ∷ ps) ((i, c) ∷ (j, suc d) ∷ ps) (same_from i j q) in
+    let sum : suc d + c ≡ c + suc d = omega arith in
+    cc)
+    (λ b. absurd (omega (arith, ints))))
+    (cases_index i j)
+
+pub raised_joined : (f : ℕ → ℕ) (a n i c : ℕ) → (0 < n → i ≤ a) → raised_by (index_of i) c (listing f a n) ≡ joined (index_of i, c) (listing f a n)
+raised_joined f a zero i c h = refl
+raised_joined f a (suc n) i c h =
+    let low : i ≤ a = h (omega arith) in
+    joined_counted (index_of i) (index_of a) c (f a) (listing f (a + 1) n) (omega (arith, ints))
+    (raised_joined f (a + 1) n i c (λ u. omega arith))
+
+pub listing_joined : (f g : ℕ → ℕ) (a n i d : ℕ) → a ≤ i → i < a + n → ((k : ℕ) → a ≤ k → k < i → f k ≡ 0) → g i ≡ f i + suc d → ((k : ℕ) → a ≤ k → k < a + n → (k ≢ i) → g k ≡ f k) → listing g a n ≡ joined (index_of i, suc d) (listing f a n)
+listing_joined f g a n i d h l z r e =
+    let p : n ≡ (i - a) + (n - (i - a)) = omega arith in
+    let q : a + (i - a) ≡ i = omega arith in
+    let low : listing f a n ≡ listing f i (n - (i - a)) =
+    ap (listing f a) p
+    ∙ listing_below f a (i - a) (n - (i - a)) (λ k u v. z k u (omega arith))
+    ∙ ap (λ b. listing f b (n - (i - a))) q in
+    listing_raised f g a n i (suc d) h l (omega arith) r e
+    ∙ ap (raised_by (index_of i) (suc d)) low
+    ∙ raised_joined f i (n - (i - a)) i (suc d) (λ u. omega arith)
+    ∙ ap (joined (index_of i, suc d)) (sym low)
 
 -- the pair at a position of the list, past a counter
 pair_past_unused : (i : ℤ) (c k : ℕ) (ps : Pairs) → c ≡ 0 → pair_at (put_count i c ps) k ≡ pair_at ps k

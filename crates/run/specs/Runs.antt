@@ -8,7 +8,7 @@ use Rattle.run.specs.declared.Run.{Run}
 
 -- the pairs of its window
 abbrev pub pairs_of : Run → Pairs
-pairs_of run = listing (counter run.counters) run.first run.span
+pairs_of run = listing (counter run.counters) run.window.first run.window.span
 
 -- the listed indices and the new one fit in 512 consecutive ones
 abbrev pub room_of : Run → ℤ → Bool

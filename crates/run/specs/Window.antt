@@ -1,7 +1,7 @@
 -- A window of counters: consecutive indices, each with its count, and the pairs that they list.
-use Rattle.std.specs.Prelude.{◌≡◌, ℕ, zero, suc, ◌+◌, ◌/◌, ◌%◌, ◌<◌, ◌≤◌, Bool, ◌⊎◌, List, [], ◌∷◌, ℤ, pos, negsuc, ◌+ℤ◌, int_lt, slice_index}
+use Rattle.std.specs.Prelude.{◌≡◌, ℕ, zero, suc, ◌+◌, ◌/◌, ◌%◌, ◌<◌, ◌≤◌, Bool, cond, ◌⊎◌, List, [], ◌∷◌, ℤ, pos, negsuc, ◌+ℤ◌, int_lt, slice_index}
 use Rattle.std.specs.Int.{int_max, int_min}
-use Rattle.store.specs.Pairs.{Pairs}
+use Rattle.store.specs.Pairs.{Pairs, same}
 
 -- the index at a position: positions are counted from the lowest index of all schemas
 abbrev pub index_of : ℕ → ℤ
@@ -28,6 +28,12 @@ put_count i (suc c) ps = (i, suc c) ∷ ps
 abbrev pub listing : (ℕ → ℕ) → ℕ → ℕ → Pairs
 listing count a zero = []
 listing count a (suc n) = put_count (index_of a) (count a) (listing count (a + 1) n)
+
+-- the count of i up by c, or i put into its place with count c
+abbrev pub raised_by : ℤ → ℕ → Pairs → Pairs
+raised_by i c [] = (i, c) ∷ []
+raised_by i c (p ∷ ps) =
+    cond (int_lt i p.0) ((i, c) ∷ p ∷ ps) (cond (same i p.0) ((p.0, p.1 + c) ∷ ps) (p ∷ raised_by i c ps))
 
 -- the lowest of i and the listed indices
 abbrev pub lowest_with : ℤ → Pairs → ℤ

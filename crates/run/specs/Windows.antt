@@ -4,12 +4,12 @@ use Rattle.std.proofs.Common.{sym, ap, subst, ◌∙◌, ⊎_elim, arith, lit<}
 use Rattle.std.specs.Int.{int_max, int_min}
 use Rattle.std.proofs.lemmas.Int.{ints}
 use Rattle.std.proofs.lemmas.Bool.{cases_eq}
-use Rattle.store.specs.Pairs.{Means, total, listed}
+use Rattle.store.specs.Pairs.{Means, total, listed, ranged}
 use Rattle.store.specs.Stores.{Roomy}
 use Rattle.store.proofs.Order.{true_T}
 use Rattle.run.specs.declared.Run.{Run}
 use Rattle.run.specs.Window.{positions, index_of, counter, listing, fits_window}
-use Rattle.run.specs.Listings.{rising_listing, counted_listing}
+use Rattle.run.specs.Listings.{rising_listing, counted_listing, ranged_listing}
 use Rattle.run.specs.Circle.{counter_replicate}
 use Rattle.run.specs.Rooms.{lowest_listing, highest_listing, room_between, room_empty, listed_within}
 
@@ -24,12 +24,10 @@ pub record Window (counters : List ℕ) (first span size sum : ℕ) : Type 0 whe
   pub summed : sum ≡ total (listing (counter counters) first span)
   pub bounded : sum < 2 ^ 64
 
--- the same, as a run is asked for them
+-- the same, as a run is asked for them: the first two are its window's own
 abbrev pub Kept : List ℕ → ℕ → ℕ → ℕ → ℕ → Type 0
 Kept counters first span size sum =
     record {
-      width : span ≤ 512;
-      reach : first + span ≤ positions;
       low : 0 < span → 0 < counter counters first;
       high : 0 < span → 0 < counter counters (first + span - 1);
       unused : (k : ℕ) → first + span ≤ k → k < first + 512 → counter counters k ≡ 0;
@@ -41,8 +39,6 @@ Kept counters first span size sum =
 pub kept : {counters : List ℕ} {first span size sum : ℕ} → Window counters first span size sum → Kept counters first span size sum
 kept w =
     record {
-      width = w.width;
-      reach = w.reach;
       low = w.low;
       high = w.high;
       unused = w.unused;
@@ -51,11 +47,11 @@ kept w =
       bounded = w.bounded;
     }
 
-pub window_of : (run : Run) → Window run.counters run.first run.span run.size run.total
+pub window_of : (run : Run) → Window run.counters run.window.first run.window.span run.size run.total
 window_of run =
     record {
-      width = run.width;
-      reach = run.reach;
+      width = run.window.width;
+      reach = run.window.reach;
       low = run.low;
       high = run.high;
       unused = run.unused;
@@ -96,6 +92,9 @@ window_means {cs} {first} {span} w =
       counts = counted_listing (counter cs) first span;
       bounded = let e = w.summed in let h = w.bounded in omega arith;
     }
+
+pub window_ranged : {cs : List ℕ} {first span size sum : ℕ} → Window cs first span size sum → T (ranged (listing (counter cs) first span))
+window_ranged {cs} {first} {span} w = ranged_listing (counter cs) first span w.reach
 
 pub window_roomy : {cs : List ℕ} {first span size sum : ℕ} → Window cs first span size sum → Roomy (listing (counter cs) first span) (fits_window (listing (counter cs) first span))
 window_roomy {cs} {first} {span} w =

@@ -1,12 +1,12 @@
 // What a run does as a store.
-ghost use Rattle.std.specs.Prelude.{◌≡◌, ◌+◌, ◌≤◌, []};
+ghost use Rattle.std.specs.Prelude.{◌≡◌, ◌+◌, ◌^◌, ◌<◌, ◌≤◌, []};
+ghost use Rattle.std.specs.Result.{result_err};
 ghost use Rattle.store.specs.Stores.{add_refusal};
 ghost use Rattle.run.specs.Runs.{pairs_of, room_of, told};
-ghost use Rattle.run.specs.Window.{counter, Next};
-ghost use Rattle.run.specs.Windows.{window_of, window_means, window_roomy};
-ghost use Rattle.run.specs.Listings.{ranged_listing};
+ghost use Rattle.run.specs.Window.{positions, index_of, counter, raised_by, Near, Widened, Next};
+ghost use Rattle.run.specs.Windows.{window_of, window_means, window_ranged, window_roomy};
 
-use crate::places::{coarser_position, index_at, position_of, widened};
+use crate::places::{Position, Window};
 use crate::{PLACES, Run};
 use index::in_index_range;
 use store::{BucketStore, StoreFault};
@@ -16,45 +16,80 @@ const REACH: i32 = 511;
 
 impl Run {
     // A run that lists nothing.
-    pub fn new() -> Run
+    pub fn new() -> Self
         ensures { pairs_of result ≡ [] }
     {
         Run {
             counters: [0; PLACES],
-            first: 0,
-            span: 0,
+            window: Window::EMPTY,
             size: 0,
             total: 0,
         }
     }
 
-    // Why the index cannot be added, if it cannot.
-    fn refusal(&self, index: i32) -> Option<StoreFault>
-        ensures { told result ≡ add_refusal (pairs_of self.now) (room_of self.now) index }
+    // The count at a position.
+    fn counter(&self, at: usize) -> u64
+        ensures { result ≡ counter self.now.counters at }
+    {
+        self.counters[at % PLACES]
+    }
+
+    // The index at a position, and its count.
+    fn bucket(&self, at: usize) -> (i32, u64)
+        requires { at < positions }
+        ensures { result ≡ (index_of at, counter self.now.counters at) }
+    {
+        (Position { at }.index(), self.counter(at))
+    }
+
+    // Refuses an index that cannot be added.
+    fn check(&self, index: i32) -> Result<(), StoreFault>
+        ensures { told (result_err result) ≡ add_refusal (pairs_of self.now) (room_of self.now) index }
     {
         if !in_index_range(index) {
-            return Some(StoreFault::OutOfRange(index));
+            return Err(StoreFault::OutOfRange(index));
         }
         if self.total == u64::MAX {
-            return Some(StoreFault::Full);
+            return Err(StoreFault::Full);
         }
         if !self.has_room(index) {
-            return Some(StoreFault::NoRoom(index));
+            return Err(StoreFault::NoRoom(index));
         }
-        None
+        Ok(())
+    }
+
+    // Raises the count at a position.
+    fn raise(&mut self, position: Position, by: u64)
+        requires more { 0 < by }
+        requires fits { self.old.total + by < 2 ^ 64 }
+        requires near { Near self.old.window.first self.old.window.span position.at }
+        ensures pairs { pairs_of self.new ≡ raised_by (index_of position.at) by (pairs_of self.old) }
+        ensures window { Widened self.old.window.first self.old.window.span position.at self.new.window.first self.new.window.span }
+    {
+        self.window = self.window.widened(position);
+        let place = position.at % PLACES;
+        if self.counters[place] == 0 {
+            self.size += 1;
+        }
+        self.counters[place] += by;
+        self.total += by;
     }
 
     // The first position from this one on whose counter is used, or the window's end.
     fn used_from(&self, from: usize) -> usize
-        requires { from ≤ self.now.first + self.now.span }
-        ensures { Next (counter self.now.counters) from (self.now.first + self.now.span) result }
+        requires { from ≤ self.now.window.first + self.now.window.span }
+        ensures { Next (counter self.now.counters) from (self.now.window.first + self.now.window.span) result }
     {
-        let end = self.first + self.span;
-        let mut at = from;
-        while at < end && self.counters[at % PLACES] == 0 {
-            at += 1;
-        }
-        at
+        let end = self.window.end();
+        (from..end).find(|&at| self.counter(at) > 0).unwrap_or(end)
+    }
+}
+
+impl Default for Run {
+    ghost is_default = { λ run. pairs_of run ≡ [] };
+
+    fn default() -> Self {
+        Run::new()
     }
 }
 
@@ -65,7 +100,7 @@ impl BucketStore for Run {
 
     ghost means = { λ run. window_means (window_of run) };
 
-    ghost in_range = { λ run. ranged_listing (counter run.counters) run.first run.span run.reach };
+    ghost in_range = { λ run. window_ranged (window_of run) };
 
     ghost roomy = { λ run. window_roomy (window_of run) };
 
@@ -74,89 +109,46 @@ impl BucketStore for Run {
     }
 
     fn pair(&self, position: usize) -> Option<(i32, u64)> {
-        if position >= self.size {
-            return None;
-        }
-        let mut left = position;
-        for at in self.first..self.first + self.span {
-            let count = self.counters[at % PLACES];
-            if count > 0 {
-                if left == 0 {
-                    return Some((index_at(at), count));
-                }
-                left -= 1;
-            }
-        }
-        None
+        self.window
+            .positions()
+            .map(|at| self.bucket(at))
+            .filter(|&(_, count)| count > 0)
+            .nth(position)
     }
 
     fn has_room(&self, index: i32) -> bool {
-        if self.span == 0 {
+        let Some((lowest, highest)) = self.window.ends() else {
             return true;
-        }
-        let lowest = index_at(self.first);
-        let highest = index_at(self.first + self.span - 1);
-        highest - REACH <= index && index <= lowest + REACH
+        };
+        (highest.index() - REACH..=lowest.index() + REACH).contains(&index)
     }
 
     fn add(&mut self, index: i32) -> Result<(), StoreFault> {
-        if let Some(fault) = self.refusal(index) {
-            return Err(fault);
-        }
-        let at = position_of(index);
-        let (first, span) = widened(self.first, self.span, at);
-        let place = at % PLACES;
-        if self.counters[place] == 0 {
-            self.size += 1;
-        }
-        self.counters[place] += 1;
-        self.first = first;
-        self.span = span;
-        self.total += 1;
+        self.check(index)?;
+        self.raise(Position::of(index), 1);
         Ok(())
     }
 
     fn take_lowest(&mut self) -> Option<(i32, u64)> {
-        if self.span == 0 {
-            return None;
-        }
-        let lowest = self.first;
-        let count = self.counters[lowest % PLACES];
-        let next = self.used_from(lowest + 1);
-        self.counters[lowest % PLACES] = 0;
-        self.span = lowest + self.span - next;
-        self.first = next;
+        let (lowest, _) = self.window.ends()?;
+        let (index, count) = self.bucket(lowest.at);
+        let next = self.used_from(lowest.at + 1);
+        self.counters[lowest.at % PLACES] = 0;
+        self.window = self.window.starting_at(next);
         self.size -= 1;
         self.total -= count;
-        Some((index_at(lowest), count))
+        Some((index, count))
     }
 
     fn halve(&mut self) {
-        if self.span == 0 {
-            return;
-        }
-        let end = self.first + self.span;
-        let first = coarser_position(self.first);
-        let span = coarser_position(end - 1) + 1 - first;
-        let mut counters = [0; PLACES];
-        let mut size = 0;
-        for at in (self.first..end).rev() {
-            let count = self.counters[at % PLACES];
+        let mut halved = Run::new();
+        for at in self.window.positions().rev() {
+            let count = self.counter(at);
             if count > 0 {
-                let place = coarser_position(at) % PLACES;
-                if counters[place] == 0 {
-                    size += 1;
-                }
-                counters[place] += count;
+                halved.raise(Position { at }.coarser(), count);
             }
         }
-        *self = Run {
-            counters,
-            first,
-            span,
-            size,
-            total: self.total,
-        };
+        *self = halved;
     }
 
     fn clear(&mut self) {

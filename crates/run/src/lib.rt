@@ -3,12 +3,14 @@
 
 ghost use Rattle.std.specs.Prelude.{◌≡◌, ℕ, ◌+◌, ◌-◌, ◌^◌, ◌<◌, ◌≤◌, length};
 ghost use Rattle.store.specs.Pairs.{total as total_of};
-ghost use Rattle.run.specs.Window.{positions, counter, listing};
+ghost use Rattle.run.specs.Window.{counter, listing};
 
 mod bucket_store;
 mod places;
 #[cfg(test)]
 mod tests;
+
+use places::Window;
 
 // How many counters a run has.
 const PLACES: usize = 512;
@@ -18,22 +20,18 @@ const PLACES: usize = 512;
 #[derive(Clone, Copy)]
 pub struct Run {
     counters: [u64; PLACES],
-    // the position of the lowest listed index
-    first: usize,
-    // how many positions there are from the lowest listed index to the highest
-    span: usize,
+    // from the position of the lowest listed index to that of the highest
+    window: Window,
     // how many indices are listed
     size: usize,
     // the sum of the counters
     total: u64,
-    ghost width: { span ≤ 512 },
-    ghost reach: { first + span ≤ positions },
     // the counters at both ends of the window are used
-    ghost low: { 0 < span → 0 < counter counters first },
-    ghost high: { 0 < span → 0 < counter counters (first + span - 1) },
+    ghost low: { 0 < window.span → 0 < counter counters window.first },
+    ghost high: { 0 < window.span → 0 < counter counters (window.first + window.span - 1) },
     // those outside it are not
-    ghost unused: { (k : ℕ) → first + span ≤ k → k < first + 512 → counter counters k ≡ 0 },
-    ghost sized: { size ≡ length (listing (counter counters) first span) },
-    ghost summed: { total ≡ total_of (listing (counter counters) first span) },
+    ghost unused: { (k : ℕ) → window.first + window.span ≤ k → k < window.first + 512 → counter counters k ≡ 0 },
+    ghost sized: { size ≡ length (listing (counter counters) window.first window.span) },
+    ghost summed: { total ≡ total_of (listing (counter counters) window.first window.span) },
     ghost bounded: { total < 2 ^ 64 },
 }

@@ -1,100 +1,64 @@
-use Rattle.std.proofs.Common.{◌≡◌, ◌+◌, ◌-◌, ◌^◌, ◌<◌, ◌≤◌, subst, arith, rules}
-use Rattle.run.specs.Window.{counter}
-use Rattle.run.proofs.Halving.{Joining, joining_none, joining_unused, joining_used, joining_fits, joining_size, joined_listing, joined_window}
-use Rattle.run.specs.Listings.{used, used_zero, used_more}
-use Rattle.run.specs.Windows.{window_of, kept}
+use Rattle.std.proofs.Common.{◌≡◌, ◌+◌, ◌-◌, ap, sym, ◌∙◌, arith}
+use Rattle.index.specs.Index.{halved as halved_index}
+use Rattle.store.specs.Pairs.{total, halved_pairs}
+use Rattle.run.specs.Runs.{pairs_of}
+use Rattle.run.specs.Window.{index_of, coarse, counter, listing, raised_by}
+use Rattle.run.proofs.Halving.{halves_used, halves_fit, widened_within, span_none}
 use Rattle.run.proofs.bucket_store.RunBucketStore.halve.Goals as goal
-use Rattle.run.proofs.bucket_store.RunBucketStore.halve.Goals.{then-counters-place-eq0, else-counters-place-eq0}
 
 pub loop-at-init : goal.loop-at-init
 loop-at-init c =
     let run = c.args.self.now in
-    let first = c.coarser_position-first.result in
-    (omega arith, joining_none run.counters (run.first + run.span) first (c.coarser_position.result + 1 - first))
+    let new = c.new-halved.result in
+    let range = ap (λ r. r.iter) c.into_iter-at-iterator.ensures.into_iter_gives ∙ c.rev-at-items.ensures.source ∙ c.positions.ensures in
+    let start = ap (λ r. r.start) range in
+    let end = ap (λ r. r.end) range in
+    let none : run.window.first + run.window.span - c.into_iter-at-iterator.result.iter.end ≡ 0 = omega arith in
+    let empty = span_none (counter new.counters) new.window.first new.window.span new.low c.new-halved.ensures in
+    record {
+      start = start;
+      low = omega arith;
+      high = omega arith;
+      within = λ h. absurd (omega arith);
+      lists =
+          c.new-halved.ensures
+          ∙ sym (ap (λ n. halved_pairs (listing (counter run.counters) c.into_iter-at-iterator.result.iter.end n)) none);
+    }
 
-pub overflow_add-size : goal.overflow_add-size
-overflow_add-size c =
+pub raise-requires-clause-fits : goal.raise-requires-clause-fits
+raise-requires-clause-fits c =
     let run = c.args.self.now in
-    let first = c.coarser_position-first.result in
-    let span = c.coarser_position.result + 1 - first in
-    let at = c.loop-at.at in
-    let small : c.loop-at.size ≤ 512 =
-    joining_size run.counters run.first run.span run.size run.total first span (window_of run) (omega arith) (omega arith) (omega arith)
-    c.loop-at.counters (at - 1) at c.loop-at.size (omega arith) (omega arith) (omega arith) c.loop-at.invariant.1
-    c.coarser_position-place.result c.coarser_position-place.ensures.value in
-    search rules
-
-pub overflow_add-counters : goal.overflow_add-counters
-overflow_add-counters c =
-    let run = c.args.self.now in
-    let first = c.coarser_position-first.result in
-    let span = c.coarser_position.result + 1 - first in
-    let at = c.loop-at.at in
-    let place = c.coarser_position-place.result in
-    let fits =
-    joining_fits run.counters run.first run.span run.size run.total first span (window_of run) (omega arith) (omega arith) (omega arith)
-    c.loop-at.counters (at - 1) at c.loop-at.size (omega arith) (omega arith) (omega arith) c.loop-at.invariant.1
-    place c.coarser_position-place.ensures.value in
-    let full = run.bounded in
-    let small : counter c.loop-at.counters place + counter run.counters (at - 1) < 2 ^ 64 = omega arith in
-    search rules
+    let end = run.window.first + run.window.span in
+    let steps = c.in-Some.ensures.steps in
+    let old = c.loop-at.invariant in
+    let fit = halves_fit (counter run.counters) c.in-Some.at c.loop-at.at-iterator.iter.end end (omega arith) (omega arith) run.window.first run.window.span (omega arith) (omega arith) in
+    let all = run.summed in
+    let sum = run.bounded in
+    let part = c.loop-at.halved.summed in
+    let same = ap total old.lists in
+    omega arith
 
 pub loop-at-preserved-then-count-gt0 : goal.loop-at-preserved-then-count-gt0
 loop-at-preserved-then-count-gt0 c =
     let run = c.args.self.now in
-    let first = c.coarser_position-first.result in
-    let span = c.coarser_position.result + 1 - first in
-    let at = c.loop-at.at in
-    let place = c.coarser_position-place.result in
-    let counts : c.if-counters-place-eq0.size + used (counter c.loop-at.counters place) ≡ c.loop-at.size + 1 =
-    elim c.if-counters-place-eq0.branch [
-      | then-counters-place-eq0 w ↦
-          let s = w.size-is in
-          let z = used_zero (counter c.loop-at.counters place) w.if-counters-place-eq0.true in
-          omega arith
-      | else-counters-place-eq0 w ↦
-          let s = w.size-is in
-          let z = used_more (counter c.loop-at.counters place) (omega arith) in
-          omega arith
-    ] in (
-      omega arith,
-      joining_used run.counters run.first run.span run.size run.total first span (window_of run) (omega arith) (omega arith) (omega arith)
-          c.loop-at.counters (at - 1) at c.loop-at.size (omega arith) (omega arith) (omega arith) c.loop-at.invariant.1
-          place c.coarser_position-place.ensures.value
-          c.if-counters-place-eq0.size c.coarser_position-place.ensures.index c.if-count-gt0.true counts,
-    )
-
-pub loop-at-preserved : goal.loop-at-preserved
-loop-at-preserved c =
-    let run = c.args.self.now in
-    let first = c.coarser_position-first.result in
-    let span = c.coarser_position.result + 1 - first in
-    let at = c.loop-at.at in (
-      omega arith,
-      joining_unused run.counters run.first run.span run.size run.total first span (window_of run) (omega arith) (omega arith) (omega arith)
-          c.loop-at.counters (at - 1) at c.loop-at.size (omega arith) (omega arith) (omega arith) c.loop-at.invariant.1
-          (omega arith),
-    )
-
-pub invariant_of-self : goal.invariant_of-self
-invariant_of-self c =
-    let run = c.args.self.now in
-    let first = c.coarser_position-first.result in
-    let span = c.coarser_position.result + 1 - first in
-    let end : c.loop-at.at ≡ run.first = omega arith in
-    let all : Joining run.counters c.loop-at.counters run.first (run.first + run.span) first span c.loop-at.size =
-    subst (λ at. Joining run.counters c.loop-at.counters at (run.first + run.span) first span c.loop-at.size) end c.loop-at.invariant.1 in
-    kept
-    (joined_window run.counters run.first run.span run.size run.total first span (window_of run) (omega arith) (omega arith) (omega arith)
-    c.loop-at.counters c.loop-at.size all)
-
-pub returns : goal.returns
-returns c =
-    let run = c.args.self.now in
-    let first = c.coarser_position-first.result in
-    let span = c.coarser_position.result + 1 - first in
-    let end : c.loop-at.at ≡ run.first = omega arith in
-    let all : Joining run.counters c.loop-at.counters run.first (run.first + run.span) first span c.loop-at.size =
-    subst (λ at. Joining run.counters c.loop-at.counters at (run.first + run.span) first span c.loop-at.size) end c.loop-at.invariant.1 in
-    joined_listing run.counters run.first run.span run.size run.total first span (window_of run) (omega arith) (omega arith) (omega arith)
-    c.loop-at.counters c.loop-at.size all
+    let count = counter run.counters in
+    let end = run.window.first + run.window.span in
+    let halved = c.loop-at.halved in
+    let steps = c.in-Some.ensures.steps in
+    let old = c.loop-at.invariant in
+    let a = c.next.new.self.iter.end in
+    let b = c.coarser.result.at in
+    let at : c.in-Some.at ≡ a = omega arith in
+    let here = c.counter-count.ensures ∙ ap count at in
+    let low : b ≡ coarse a = c.coarser.ensures.value ∙ ap coarse at in
+    record {
+      start = omega arith;
+      low = omega arith;
+      high = omega arith;
+      within = λ h. widened_within c.raise.ensures.window (coarse a) (coarse (end - 1) + 1) (omega arith) (omega arith) (λ u. let w = old.within u in (omega arith, omega arith));
+      lists =
+          c.raise.ensures.pairs
+          ∙ ap (λ n. raised_by (index_of b) n (pairs_of halved)) here
+          ∙ halves_used count a c.loop-at.at-iterator.iter.end end (omega arith) (omega arith)
+          (counter halved.counters) halved.window.first halved.window.span b (omega arith) (c.coarser.ensures.index ∙ ap (λ k. halved_index (index_of k)) at) (λ u. let w = old.within u in omega arith) old.lists;
+    }

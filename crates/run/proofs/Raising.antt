@@ -1,12 +1,12 @@
--- What a window keeps when an index is added.
+-- What a window keeps when a count is raised.
 use Rattle.std.proofs.Common.{◌≡◌, ℕ, ◌+◌, ◌-◌, ◌%◌, ◌^◌, ◌<◌, ◌≤◌, true, ◌⊎◌, List, length, set, ℤ, None, sym, refl, ap, ◌∙◌, subst, inl, inr, ⊎_elim, arith}
 use Rattle.std.proofs.lemmas.Int.{ints}
 use Rattle.std.proofs.lemmas.Bool.{cases_eq, cases_lt}
 use Rattle.std.proofs.lemmas.Bool.Decides.{nat_tests}
 use Rattle.index.specs.Index.{in_index_range}
-use Rattle.store.specs.Pairs.{Pairs, total, raised}
+use Rattle.store.specs.Pairs.{Pairs, total}
 use Rattle.store.specs.Stores.{Room, add_refusal}
-use Rattle.run.specs.Window.{positions, index_of, counter, listing, fits_window, Near, Widened}
+use Rattle.run.specs.Window.{positions, index_of, counter, listing, raised_by, fits_window, Near, Widened}
 use Rattle.run.specs.Listings.{listing_none, listing_below, listing_above, listing_raised, used, used_more, total_listing, length_listing, sum_change, sum_part}
 use Rattle.run.specs.Circle.{counter_same_place, counter_all_unused, counter_set_same, counter_set_other}
 use Rattle.run.specs.Rooms.{room_below}
@@ -22,7 +22,7 @@ near_room {cs} {first} {span} at i w e t h =
     let both = room_below (index_of first) (index_of (first + span - 1)) i (sym (window_room i w h) ∙ t) in
     (omega (arith, ints), omega (arith, ints))
 
-module _ (cs : List ℕ) (first span size sum at first' span' : ℕ) (w : Window cs first span size sum) (v : Widened first span at first' span') where
+module _ {cs : List ℕ} {first span size sum at first' span' : ℕ} (w : Window cs first span size sum) (v : Widened first span at first' span') where
   -- around the old window all counters are 0
   around : (k : ℕ) → first' ≤ k → k < first' + 512 → (k < first) ⊎ (first + span ≤ k) → counter cs k ≡ 0
   around k h l o =
@@ -59,41 +59,50 @@ module _ (cs : List ℕ) (first span size sum at first' span' : ℕ) (w : Window
       ∙ listing_above (counter cs) first span (first' + span' - (first + span)) (λ k a b. around k (omega arith) (omega arith) (inr a)))
       (cases_eq span 0)
 
-  module _ (long : length cs ≡ 512) where
-    raised_counter : counter (set cs (at % 512) (counter cs at + 1)) at ≡ counter cs at + 1
-    raised_counter = counter_set_same cs at (counter cs at + 1) long
+  -- no counter passes the sum
+  pub counter_part : counter cs at ≤ sum
+  counter_part =
+      let x = total_listing (counter cs) first' span' in
+      let z = ap total listing_widened in
+      let s = w.summed in
+      let t = sum_part (counter cs) first' span' at v.from v.to in
+      omega arith
 
-    other_counter : (k : ℕ) → first' ≤ k → k < first' + 512 → (k ≡ at → ⊥) → counter (set cs (at % 512) (counter cs at + 1)) k ≡ counter cs k
+  module _ (long : length cs ≡ 512) (by : ℕ) (more : 0 < by) where
+    -- the counters after
+    abbrev after : ℕ → ℕ
+    after = counter (set cs (at % 512) (counter cs at + by))
+
+    raised_counter : after at ≡ counter cs at + by
+    raised_counter = counter_set_same cs at (counter cs at + by) long
+
+    other_counter : (k : ℕ) → first' ≤ k → k < first' + 512 → (k ≡ at → ⊥) → after k ≡ counter cs k
     other_counter k h l n =
         let a = v.from in
         let b = v.to in
         let c = v.wide in
-        counter_set_other cs first' at k (counter cs at + 1) a (omega arith) h l n
+        counter_set_other cs first' at k (counter cs at + by) a (omega arith) h l n
 
     -- a counter that was used still is
-    still_used : (k : ℕ) → first' ≤ k → k < first' + 512 → (k ≡ at) ⊎ (0 < counter cs k) → 0 < counter (set cs (at % 512) (counter cs at + 1)) k
+    still_used : (k : ℕ) → first' ≤ k → k < first' + 512 → (k ≡ at) ⊎ (0 < counter cs k) → 0 < after k
     still_used k h l o =
         ⊎_elim
-        (λ e.
-        let x : counter (set cs (at % 512) (counter cs at + 1)) k ≡ counter cs at + 1 =
-        ap (counter (set cs (at % 512) (counter cs at + 1))) e ∙ raised_counter in
-        omega arith)
+        (λ e. let x : after k ≡ counter cs at + by = ap after e ∙ raised_counter in omega arith)
         (λ n.
         let x = other_counter k h l n in
         ⊎_elim (λ e. absurd (n e)) (λ u. omega arith) o)
         (cases_eq k at)
 
-    pub adds : listing (counter (set cs (at % 512) (counter cs at + 1))) first' span' ≡ raised (index_of at) (listing (counter cs) first span)
-    adds =
+    pub raises : listing after first' span' ≡ raised_by (index_of at) by (listing (counter cs) first span)
+    raises =
         let c = v.wide in
-        listing_raised (counter cs) (counter (set cs (at % 512) (counter cs at + 1))) first' span' at v.from v.to raised_counter
+        listing_raised (counter cs) after first' span' at by v.from v.to more raised_counter
         (λ k h l n. other_counter k h (omega arith) n)
-        ∙ ap (raised (index_of at)) listing_widened
+        ∙ ap (raised_by (index_of at) by) listing_widened
 
-    pub adds_window : (size' : ℕ) → at < positions → size' + used (counter cs at) ≡ size + 1 → sum + 1 < 2 ^ 64 → Window (set cs (at % 512) (counter cs at + 1)) first' span' size' (sum + 1)
-    adds_window size' small counts full =
+    pub raises_window : (size' : ℕ) → at < positions → size' + used (counter cs at) ≡ size + 1 → sum + by < 2 ^ 64 → Window (set cs (at % 512) (counter cs at + by)) first' span' size' (sum + by)
+    raises_window size' small counts full =
         let f = counter cs in
-        let g = counter (set cs (at % 512) (counter cs at + 1)) in
         let from = v.from in
         let to = v.to in
         let wide = v.wide in
@@ -112,29 +121,20 @@ module _ (cs : List ℕ) (first span size sum at first' span' : ℕ) (w : Window
               ∙ around k (omega arith) l (⊎_elim (λ (e : span ≡ 0). ⊎_elim inl (λ x. inr (omega arith)) (cases_lt k first)) (λ n. let up = v.upper (omega arith) in inr (omega arith)) (cases_eq span 0));
           sized =
               let x = length_listing f first' span' in
-              let y = length_listing g first' span' in
+              let y = length_listing after first' span' in
               let z = ap length listing_widened in
               let s = w.sized in
-              let one : used (g at) ≡ 1 = used_more (g at) (still_used at from (omega arith) (inl refl)) in
-              let t = sum_change (λ k. used (f k)) (λ k. used (g k)) first' span' at from to
+              let one : used (after at) ≡ 1 = used_more (after at) (still_used at from (omega arith) (inl refl)) in
+              let t = sum_change (λ k. used (f k)) (λ k. used (after k)) first' span' at from to
               (λ k a b n. ap used (other_counter k a (omega arith) n)) in
               omega arith;
           summed =
               let x = total_listing f first' span' in
-              let y = total_listing g first' span' in
+              let y = total_listing after first' span' in
               let z = ap total listing_widened in
               let s = w.summed in
               let one = raised_counter in
-              let t = sum_change f g first' span' at from to (λ k a b n. other_counter k a (omega arith) n) in
+              let t = sum_change f after first' span' at from to (λ k a b n. other_counter k a (omega arith) n) in
               omega arith;
           bounded = full;
         }
-
-    -- no counter passes the sum
-    pub counter_part : counter cs at ≤ sum
-    counter_part =
-        let x = total_listing (counter cs) first' span' in
-        let z = ap total listing_widened in
-        let s = w.summed in
-        let t = sum_part (counter cs) first' span' at v.from v.to in
-        omega arith
