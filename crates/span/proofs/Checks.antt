@@ -1,9 +1,9 @@
 -- What the checks of an opening tell.
-use Rattle.std.proofs.Common.{◌≡◌, ℕ, ◌+◌, ◌-◌, ◌^◌, ◌<◌, Bool, true, false, cond, ◌&&◌, T, eqb, ltb, ◌⊎◌, List, [], ◌∷◌, length, get_or, drop, ℤ, pos, negsuc, ◌+ℤ◌, ◌-ℤ◌, nat_abs, ◌≤ℤ◌, Some, None, Option, sym, refl, ap, ◌∙◌, inl, inr, arith, w32, w64, Fits, SFits, to_z, of_z}
+use Rattle.std.proofs.Common.{◌≡◌, ℕ, ◌+◌, ◌-◌, ◌^◌, ◌<◌, ◌≤◌, Bool, true, false, cond, ◌&&◌, T, eqb, ltb, ◌⊎◌, List, [], ◌∷◌, length, get_or, drop, ℤ, pos, negsuc, ◌+ℤ◌, ◌-ℤ◌, nat_abs, ◌≤ℤ◌, Some, None, Option, sym, refl, ap, ◌∙◌, inl, inr, arith, w32, w64, Fits, SFits, to_z, of_z}
 use lib.Signed.{le_z, lt_z, le_z_yes}
 use Rattle.std.proofs.lemmas.List.{at_drop_more}
-use Rattle.std.proofs.lemmas.Int.{ints, to_z-of_z, to_z_pos}
-use Rattle.std.proofs.lemmas.Bool.{cond-true, cond-false, and_parts, and_from, and_left, and_right, eqb-true, eqb-false, ne_eqb, ltb-false}
+use Rattle.std.proofs.lemmas.Int.{ints, to_z-of_z}
+use Rattle.std.proofs.lemmas.Bool.{cond-true, cond-false, and_parts, and_from, and_left, and_right, eqb-true, eqb-false, ne_eqb, le-ltb}
 use Rattle.index.specs.Index.{in_index_range}
 use Rattle.store.specs.Pairs.{same}
 use Rattle.store.proofs.Order.{true_T, same_true}
@@ -89,13 +89,18 @@ sound_start ss ds e f g =
     let a = eqb-true (lengths ss) (length ds) (passes (eqb (lengths ss) (length ds)) _ _ e).0 in
     record { whole = omega arith; low = omega (arith, ints); high = omega (arith, ints); ahead = inside_all ss f; counts = counts_all 0 (pos 0) ds g }
 
--- the three tests of a span, as the machine has its numbers
-module _ (k : ℕ) (next : ℤ) (s : ℤ × ℕ) (low : negsuc 274943 ≤ℤ next) (high : next ≤ℤ pos 262146) (f : SFits w32 s.0) (g : Fits w32 s.1) where
+-- a span does not go back where it is the first, or its offset is not negative
+pub onward : (k : ℕ) (z : ℤ) → SFits w32 z → (k ≤ 0) ⊎ (lt_z (to_z w32 (of_z w32 z)) (pos 0) ≡ false) → (ltb 0 k && lt_z z (pos 0)) ≡ false
+onward k z f (inl h) = and_left _ _ (le-ltb 0 k h)
+onward k z f (inr e) = and_right (ltb 0 k) _ (ap (λ x. lt_z x (pos 0)) (sym (to_z-of_z w32 z f)) ∙ e)
+
+-- the tests of a span, as the machine has its numbers
+module _ (k : ℕ) (next : ℤ) (s : ℤ × ℕ) (low : negsuc 274943 ≤ℤ next) (high : next ≤ℤ pos 262146) (f : SFits w32 s.0) (g : Fits w32 s.1) {offset len : ℤ} (e : offset ≡ to_z w32 (of_z w32 s.0)) (l : len ≡ pos s.1) where
   abbrev pub first : ℤ
-  first = to_z w64 (of_z w64 (to_z w64 (of_z w64 next) +ℤ to_z w64 (of_z w64 (to_z w32 (of_z w32 s.0)))))
+  first = to_z w64 (of_z w64 (to_z w64 (of_z w64 next) +ℤ to_z w64 (of_z w64 offset)))
 
   abbrev pub after : ℤ
-  after = to_z w64 (of_z w64 (first +ℤ to_z w64 s.1))
+  after = to_z w64 (of_z w64 (first +ℤ to_z w64 (of_z w64 len)))
 
   abbrev pub last : ℤ
   last = to_z w64 (of_z w64 (after -ℤ pos 1))
@@ -103,71 +108,37 @@ module _ (k : ℕ) (next : ℤ) (s : ℤ × ℕ) (low : negsuc 274943 ≤ℤ nex
   first_is : first ≡ next +ℤ s.0
   first_is = omega (arith, ints)
 
-  pub after_is : after ≡ next +ℤ s.0 +ℤ pos s.1
-  after_is = omega (arith, ints)
-
   last_is : last ≡ next +ℤ s.0 +ℤ pos s.1 -ℤ pos 1
   last_is = omega (arith, ints)
 
+  -- where its length is not 0 and it does not go back
   module _ (some : s.1 ≡ 0 → ⊥) (on : (ltb 0 k && lt_z s.0 (pos 0)) ≡ false) where
-    reaches : span_refusal k next s ≡ cond (in_index_range (next +ℤ s.0) && in_index_range (next +ℤ s.0 +ℤ pos s.1 -ℤ pos 1)) None (Some (14, pos k))
-    reaches = cond-false _ _ _ (ne_eqb s.1 0 some) ∙ cond-false _ _ _ on
+    reaches : span_refusal k next s ≡ cond (in_index_range first && in_index_range last) None (Some (14, pos k))
+    reaches = cond-false _ _ _ (ne_eqb s.1 0 some) ∙ cond-false _ _ _ on ∙ (λ i. cond (in_index_range (sym first_is i) && in_index_range (sym last_is i)) None (Some (14, pos k)))
 
     pub reaches_in : in_index_range first ≡ true → in_index_range last ≡ true → span_refusal k next s ≡ None
-    reaches_in a b =
-        reaches
-        ∙ cond-true _ _ _ (and_from (in_index_range (next +ℤ s.0)) (in_index_range (next +ℤ s.0 +ℤ pos s.1 -ℤ pos 1)) (ap in_index_range (sym first_is) ∙ a) (ap in_index_range (sym last_is) ∙ b))
+    reaches_in a b = reaches ∙ cond-true _ _ _ (and_from _ _ a b)
 
     pub reaches_out : (in_index_range first ≡ false) ⊎ (in_index_range last ≡ false) → span_refusal k next s ≡ Some (14, pos k)
-    reaches_out (inl a) =
-        reaches
-        ∙ cond-false _ _ _ (and_left (in_index_range (next +ℤ s.0)) (in_index_range (next +ℤ s.0 +ℤ pos s.1 -ℤ pos 1)) (ap in_index_range (sym first_is) ∙ a))
-    reaches_out (inr b) =
-        reaches
-        ∙ cond-false _ _ _ (and_right (in_index_range (next +ℤ s.0)) (in_index_range (next +ℤ s.0 +ℤ pos s.1 -ℤ pos 1)) (ap in_index_range (sym last_is) ∙ b))
-
--- a span that does not go back: it is the first, or its offset is not negative
-pub onward_first : (k z : ℤ) → lt_z (pos 0) (to_z w64 (of_z w64 k)) ≡ false → SFits w64 k → pos 0 ≤ℤ k → (ltb 0 (nat_abs k) && lt_z z (pos 0)) ≡ false
-onward_first (pos n) z e f h =
-    let g : n ≡ 0 = zero n (ap (lt_z (pos 0)) (sym (to_z-of_z w64 (pos n) f)) ∙ e) in
-    ap (λ m. ltb 0 m && lt_z z (pos 0)) g
-  where
-    zero : (n : ℕ) → ltb 0 n ≡ false → n ≡ 0
-    zero n e = let l = ltb-false 0 n e in omega arith
-onward_first (negsuc n) z e f h = absurd (omega (arith, ints))
-
-pub onward_offset : (k z : ℤ) → lt_z (to_z w32 (of_z w32 z)) (pos 0) ≡ false → SFits w32 z → (ltb 0 (nat_abs k) && lt_z z (pos 0)) ≡ false
-onward_offset k z e f = and_right (ltb 0 (nat_abs k)) (lt_z z (pos 0)) (ap (λ x. lt_z x (pos 0)) (sym (to_z-of_z w32 z f)) ∙ e)
-
--- a number that is not negative, as a natural one and back
-pub whole_number : (k : ℤ) → pos 0 ≤ℤ k → SFits w64 k → pos (nat_abs k) ≡ to_z w64 (of_z w64 k)
-whole_number (pos n) h f = sym (to_z-of_z w64 (pos n) f)
-whole_number (negsuc n) h f = absurd (omega (arith, ints))
-
--- a place in a list, as the machine has it
-pub number_is : (n : ℕ) → n < 2 ^ 63 → nat_abs (to_z w64 n) ≡ n
-number_is n h = ap nat_abs (to_z_pos w64 n h)
+    reaches_out (inl a) = reaches ∙ cond-false _ _ _ (and_left _ _ a)
+    reaches_out (inr b) = reaches ∙ cond-false _ _ _ (and_right _ _ b)
 
 -- one more span
-module _ {next : ℤ} (low : negsuc 274943 ≤ℤ next) (ss : Spans) (k : ℕ) (d : ℤ × ℕ) (within : k < length ss) (few : k < 2 ^ 63) where
+module _ {next : ℤ} (low : negsuc 274943 ≤ℤ next) (ss : Spans) (k : ℕ) (d : ℤ × ℕ) (within : k < length ss) where
   abbrev here : ℤ × ℕ
   here = get_or ss k d
 
   spans_step : spans_refusal k next (drop k ss) ≡ either (span_refusal k next here) (spans_refusal (k + 1) (next +ℤ here.0 +ℤ pos here.1) (drop (k + 1) ss))
   spans_step = at_drop_more (spans_refusal k next) ss k d within
 
-  pub span_refused : (f : ℕ × ℤ) → span_refusal (nat_abs (to_z w64 k)) next here ≡ Some f → spans_refusal k next (drop k ss) ≡ Some f
+  pub span_refused : (f : ℕ × ℤ) → span_refusal k next here ≡ Some f → spans_refusal k next (drop k ss) ≡ Some f
   span_refused f e =
       spans_step
-      ∙ ap (λ o. either o (spans_refusal (k + 1) (next +ℤ here.0 +ℤ pos here.1) (drop (k + 1) ss)))
-      (ap (λ m. span_refusal m next here) (sym (number_is k few)) ∙ e)
+      ∙ ap (λ o. either o (spans_refusal (k + 1) (next +ℤ here.0 +ℤ pos here.1) (drop (k + 1) ss))) e
 
-  module _ (after : ℤ) (p : Passes (to_z w64 k) next here after) where
-    passed_none : span_refusal k next here ≡ None
-    passed_none = ap (λ m. span_refusal m next here) (sym (number_is k few)) ∙ p.allowed
-
+  module _ (after : ℤ) (p : Passes k next here after) where
     passed : Spanned next here
-    passed = spanned k next here passed_none
+    passed = spanned k next here p.allowed
 
     pub passed_low : negsuc 274943 ≤ℤ to_z w64 (of_z w64 after)
     passed_low = let a = p.follows in let l = spanned_low next here passed in let h = spanned_high next here passed in omega (arith, ints)
@@ -181,7 +152,7 @@ module _ {next : ℤ} (low : negsuc 274943 ≤ℤ next) (ss : Spans) (k : ℕ) (
     pub span_passed : spans_refusal (k + 1) (to_z w64 (of_z w64 after)) (drop (k + 1) ss) ≡ spans_refusal k next (drop k ss)
     span_passed =
         ap (λ z. spans_refusal (k + 1) z (drop (k + 1) ss)) after_back
-        ∙ sym (ap (λ o. either o (spans_refusal (k + 1) (next +ℤ here.0 +ℤ pos here.1) (drop (k + 1) ss))) passed_none)
+        ∙ sym (ap (λ o. either o (spans_refusal (k + 1) (next +ℤ here.0 +ℤ pos here.1) (drop (k + 1) ss))) p.allowed)
         ∙ sym spans_step
 
 -- one more delta
