@@ -1,6 +1,7 @@
 -- The pairs with short gaps filled, as they are listed one after another.
-use Rattle.std.proofs.Common.{◌≡◌, ℕ, zero, suc, ◌+◌, ◌^◌, ◌<◌, ◌≤◌, true, false, T, ◌⊎◌, [], ◌∷◌, length, drop, ℤ, pos, negsuc, ◌+ℤ◌, ◌-ℤ◌, ◌≤ℤ◌, Some, None, sym, refl, ap, ◌∙◌, inl, inr, arith, w32, to_z, of_z}
+use Rattle.std.proofs.Common.{◌≡◌, ℕ, zero, suc, ◌+◌, ◌^◌, ◌<◌, ◌≤◌, true, false, T, ◌⊎◌, [], ◌∷◌, length, drop, ℤ, pos, negsuc, ◌+ℤ◌, ◌-ℤ◌, ◌≤ℤ◌, Some, None, Option, sym, refl, ap, ◌∙◌, inl, inr, arith, w32, to_z, of_z}
 use lib.Signed.{le_z, lt_z, le_z_yes, ◌<ℤ◌}
+use Rattle.std.specs.Option.{MatchOption}
 use Rattle.std.proofs.lemmas.Int.{ints}
 use Rattle.index.specs.Index.{in_index_range}
 use Rattle.store.specs.Pairs.{Pairs, Means, counted, ranged, total, pair_at}
@@ -76,13 +77,28 @@ ahead_two ps k next p e two =
     ∙ sym (ahead_one ps k (next +ℤ pos 1) p e (omega (arith, ints)))))
 
 -- the start
-pub ahead_start : (ps : Pairs) (p : ℤ × ℕ) → pair_at ps 0 ≡ Some p → ahead ps 0 p.0 ≡ filled ps
+ahead_start : (ps : Pairs) (p : ℤ × ℕ) → pair_at ps 0 ≡ Some p → ahead ps 0 p.0 ≡ filled ps
 ahead_start ps p e =
     ahead_pair ps 0 p.0 p e (λ f. omega (arith, ints)) (λ f. omega (arith, ints))
     ∙ sym (ap filled (drop_pair ps 0 p e))
 
-pub ahead_empty : (ps : Pairs) (next : ℤ) → pair_at ps 0 ≡ None → ahead ps 0 next ≡ filled ps
+ahead_empty : (ps : Pairs) (next : ℤ) → pair_at ps 0 ≡ None → ahead ps 0 next ≡ filled ps
 ahead_empty ps next e = ahead_none ps 0 next e ∙ sym (ap filled (drop_none ps 0 e))
+
+-- where a walk of the pairs starts
+pub record Starts (ps : Pairs) (next : ℤ) : Type 0 where
+  pub low : negsuc 274943 ≤ℤ next
+  pub high : next ≤ℤ pos 262146
+  pub all : ahead ps 0 next ≡ filled ps
+
+pub starts : {Is : ℤ × ℕ → Type 0} (ps : Pairs) (o : Option (ℤ × ℕ)) (next : ℤ) → T (ranged ps) → o ≡ pair_at ps 0 → MatchOption o (next ≡ pos 0) Is → ((p : ℤ × ℕ) → Is p → next ≡ p.0) → Starts ps next
+starts ps None next t e z f = record { low = omega (arith, ints); high = omega (arith, ints); all = ahead_empty ps next (sym e) }
+starts ps (Some p) next t e z f =
+    let i = f p z in
+    let r = pair_ranges ps 0 p t (sym e) in
+    let l = r.low in
+    let h = r.high in
+    record { low = omega (arith, ints); high = omega (arith, ints); all = ap (ahead ps 0) i ∙ ahead_start ps p (sym e) }
 
 -- the gap from `next` to i, as the machine has it
 abbrev pub gap : ℤ → ℤ → ℤ
