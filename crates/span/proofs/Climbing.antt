@@ -1,5 +1,5 @@
 -- Pairs whose indices rise and stay in range, as one chain of bounds, and the filled list.
-use Rattle.std.proofs.Common.{◌≡◌, ℕ, ◌^◌, ◌<◌, T, [], ◌∷◌, ◌++◌, length, ℤ, pos, negsuc, ◌+ℤ◌, ◌≤ℤ◌, refl, arith}
+use Rattle.std.proofs.Common.{◌≡◌, ℕ, ◌^◌, ◌<◌, T, [], ◌∷◌, ◌++◌, length, ℤ, pos, negsuc, ◌+ℤ◌, ◌≤ℤ◌, Some, None, Option, unwrap_or, refl, ap, arith}
 use Rattle.std.proofs.lemmas.Int.{ints}
 use Rattle.std.proofs.lemmas.Bool.{cond_both}
 use Rattle.store.specs.Pairs.{Pairs, same, rising, ranged}
@@ -73,13 +73,30 @@ abbrev pub after_from : ℤ → Pairs → ℤ
 after_from next [] = next
 after_from next (p ∷ ps) = after_from (p.0 +ℤ pos 1) ps
 
--- a pair q in a list that climbs, with ys before it
-pub record Stands (low next : ℤ) (ys : Pairs) (q : ℤ × ℕ) : Type 0 where
-  pub reached : next ≤ℤ q.0
-  pub enough : (low +ℤ pos (length ys)) ≤ℤ next
-  pub high : q.0 ≤ℤ pos 262145
+-- the index after the last, if there is one
+abbrev pub end_of : Pairs → Option ℤ
+end_of [] = None
+end_of (p ∷ ps) = Some (after_from (p.0 +ℤ pos 1) ps)
 
-pub stands : (low : ℤ) (ys : Pairs) (q : ℤ × ℕ) (zs : Pairs) → Climbs low (ys ++ q ∷ zs) → Stands low (after_from low ys) ys q
+pub end_more : (ys : Pairs) (q : ℤ × ℕ) → end_of (ys ++ q ∷ []) ≡ Some (q.0 +ℤ pos 1)
+end_more [] q = refl
+end_more (p ∷ ys) q = ap (λ x. Some x) (after_more (p.0 +ℤ pos 1) ys q)
+  where
+    after_more : (next : ℤ) (ys : Pairs) (q : ℤ × ℕ) → after_from next (ys ++ q ∷ []) ≡ q.0 +ℤ pos 1
+    after_more next [] q = refl
+    after_more next (p ∷ ys) q = after_more (p.0 +ℤ pos 1) ys q
+
+-- the index that would come after ys, which is 0 before the first
+abbrev pub after : Pairs → ℤ
+after ys = unwrap_or (end_of ys) (pos 0)
+
+-- a pair q in a list that climbs, with ys before it
+record Stands (low next : ℤ) (ys : Pairs) (q : ℤ × ℕ) : Type 0 where
+  reached : next ≤ℤ q.0
+  enough : (low +ℤ pos (length ys)) ≤ℤ next
+  high : q.0 ≤ℤ pos 262145
+
+stands : (low : ℤ) (ys : Pairs) (q : ℤ × ℕ) (zs : Pairs) → Climbs low (ys ++ q ∷ zs) → Stands low (after_from low ys) ys q
 stands low [] q zs h =
     let a = h.0 in
     let b = climbs_top (q.0 +ℤ pos 1) zs h.1 in
@@ -92,10 +109,9 @@ stands low (p ∷ ps) q zs h =
     let t = s.high in
     record { reached = r; enough = omega (arith, ints); high = t }
 
--- the index that would come after ys, which is 0 before the first
 pub record Place (ys : Pairs) (q : ℤ × ℕ) : Type 0 where
-  pub low : negsuc 274943 ≤ℤ after_from (pos 0) ys
-  pub high : after_from (pos 0) ys ≤ℤ pos 262146
+  pub low : negsuc 274943 ≤ℤ after ys
+  pub high : after ys ≤ℤ pos 262146
   pub index_low : negsuc 274943 ≤ℤ q.0
   pub index_high : q.0 ≤ℤ pos 262145
   pub few : length ys < 2 ^ 20

@@ -1,4 +1,4 @@
-use Rattle.std.proofs.Common.{pos, Some, sym, ap, ◌∙◌, inl, inr, arith, w32, w64, Fits, SFits, rules}
+use Rattle.std.proofs.Common.{Some, sym, ap, ◌∙◌, inl, inr, arith, w32, w64, Fits, SFits, rules}
 use Rattle.std.proofs.lemmas.Int.{ints, to_z_pos}
 use Rattle.span.proofs.Checks.{onward, reaches_in, reaches_out}
 use Rattle.span.proofs.opening.check_span.Goals as goal

@@ -1,4 +1,4 @@
-use Rattle.std.proofs.Common.{◌∙◌, sym, ap, arith, w32, SFits, rules}
+use Rattle.std.proofs.Common.{◌∙◌, ap, arith, w32, SFits, rules}
 use Rattle.std.proofs.lemmas.Int.{ints, to_z-of_z}
 use Rattle.span.specs.Spans.{ahead}
 use Rattle.span.proofs.Filling.{starts}

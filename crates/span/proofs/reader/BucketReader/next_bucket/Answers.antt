@@ -1,4 +1,4 @@
-use Rattle.std.proofs.Common.{◌∷◌, sym, ap, ◌∙◌, w64, SFits, rules}
+use Rattle.std.proofs.Common.{sym, ap, ◌∙◌, w64, SFits, rules}
 use Rattle.span.proofs.Unread.{nothing_left, has_read, read_buckets}
 use Rattle.span.proofs.reader.BucketReader.next_bucket.Goals as goal
 

@@ -1,5 +1,5 @@
-use Rattle.std.proofs.Common.{sym, refl}
-use Rattle.span.proofs.Checks.{none_from, sound_start}
+use Rattle.std.proofs.Common.{sym}
+use Rattle.span.proofs.Checks.{sound_start}
 use Rattle.span.proofs.reader.NativeHistogramBuckets.read.Goals as goal
 
 pub invariant_of-result : goal.invariant_of-result
