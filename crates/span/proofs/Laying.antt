@@ -72,11 +72,12 @@ module _ {ps ys rest rest' : Pairs} {q : ℤ × ℕ} {end : Option ℤ} {n : Len
     pub new_fits : (m : ℕ) → length (spans ps) ≤ m → n.spans + 1 ≤ m
     new_fits m h = let r = seen_room m h in let s = spans_new seen e apart in omega arith
 
-    pub laying_new : (ss ss' : Spans) (offset : ℤ) → offset ≡ q.0 -ℤ after ys → length (spans ps) ≤ length ss → ss' ≡ laid (runs ys) ss → set ss' n.spans (offset, 1) ≡ laid (runs (ys ++ q ∷ [])) ss
-    laying_new ss ss' offset f room w =
+    pub laying_new : (ss ss' : Spans) {ss'' : Spans} {offset : ℤ} → ss'' ≡ set ss' n.spans (offset, 1) → offset ≡ q.0 -ℤ after ys → length (spans ps) ≤ length ss → ss' ≡ laid (runs ys) ss → ss'' ≡ laid (runs (ys ++ q ∷ [])) ss
+    laying_new ss ss' {offset = offset} is f room w =
         let long = new_fits (length ss) room in
         let k = seen.of_spans in
-        ap (λ k. set ss' k (offset, 1)) seen.of_spans
+        is
+        ∙ ap (λ k. set ss' k (offset, 1)) seen.of_spans
         ∙ ap (λ xs. set xs (length (runs ys)) (offset, 1)) w
         ∙ laid_more (runs ys) ss (offset, 1) (omega arith)
         ∙ ap (λ x. laid (runs ys ++ (x, 1) ∷ []) ss) f

@@ -53,11 +53,11 @@ loop-index-preserved g c =
       | then-ne w ↦
           seen_more s e _ _ (after_is p) (omega arith)
           (ap (λ n. n.spans) w.lengths-is ∙ sym (spans_new s e (starts p _ (not-true _ (sym c.ne.ensures ∙ w.if-ne.true)))))
-          (ap (λ n. n.deltas) w.lengths-is)
+          (let d = ap (λ n. n.deltas) w.lengths-is in omega arith)
       | else-ne w ↦
           seen_more s e _ _ (after_is p) (omega arith)
           (ap (λ n. n.spans) w.lengths-is ∙ sym (spans_same s e (joins p _ (not-false _ (sym c.ne.ensures ∙ w.if-ne.false)))))
-          (ap (λ n. n.deltas) w.lengths-is)
+          (let d = ap (λ n. n.deltas) w.lengths-is in omega arith)
     ]
 
 pub returns : goal.returns
