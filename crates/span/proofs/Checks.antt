@@ -131,11 +131,6 @@ module _ {next : ℤ} (low : negsuc 274943 ≤ℤ next) (ss : Spans) (k : ℕ) (
   spans_step : spans_refusal k next (drop k ss) ≡ either (span_refusal k next here) (spans_refusal (k + 1) (next +ℤ here.0 +ℤ pos here.1) (drop (k + 1) ss))
   spans_step = at_drop_more (spans_refusal k next) ss k d within
 
-  pub span_refused : (f : ℕ × ℤ) → span_refusal k next here ≡ Some f → spans_refusal k next (drop k ss) ≡ Some f
-  span_refused f e =
-      spans_step
-      ∙ ap (λ o. either o (spans_refusal (k + 1) (next +ℤ here.0 +ℤ pos here.1) (drop (k + 1) ss))) e
-
   module _ (after : ℤ) (p : Passes k next here after) where
     passed : Spanned next here
     passed = spanned k next here p.allowed
@@ -154,14 +149,3 @@ module _ {next : ℤ} (low : negsuc 274943 ≤ℤ next) (ss : Spans) (k : ℕ) (
         ap (λ z. spans_refusal (k + 1) z (drop (k + 1) ss)) after_back
         ∙ sym (ap (λ o. either o (spans_refusal (k + 1) (next +ℤ here.0 +ℤ pos here.1) (drop (k + 1) ss))) p.allowed)
         ∙ sym spans_step
-
--- one more delta
-pub counts_step : (ds : List ℤ) (k : ℕ) (before d : ℤ) → k < length ds → counts_refusal k before (drop k ds) ≡ cond (countable (before +ℤ get_or ds k d)) (counts_refusal (k + 1) (before +ℤ get_or ds k d) (drop (k + 1) ds)) (Some (15, pos k))
-counts_step ds k before d h = at_drop_more (counts_refusal k before) ds k d h
-
--- a count in range
-pub count_low : (n : ℤ) → countable n ≡ true → pos 0 ≤ℤ n
-count_low n e = le_z_yes (true_T _ (and_parts (le_z (pos 0) n) (le_z n (pos (2 ^ 63 - 1))) e).0)
-
-pub count_high : (n : ℤ) → countable n ≡ true → n ≤ℤ pos (2 ^ 63 - 1)
-count_high n e = le_z_yes (true_T _ (and_parts (le_z (pos 0) n) (le_z n (pos (2 ^ 63 - 1))) e).1)

@@ -1,15 +1,16 @@
 -- What a loop over the filled pairs has written.
-use Rattle.std.proofs.Common.{◌≡◌, ℕ, ◌+◌, ◌-◌, ◌^◌, ◌<◌, ◌≤◌, Bool, true, false, cond, ltb, List, [], ◌∷◌, ◌++◌, length, get_or, set, ℤ, pos, ◌-ℤ◌, Some, None, Option, sym, refl, ap, ◌∙◌, inl, inr, arith}
+use Rattle.std.proofs.Common.{◌≡◌, ℕ, ◌+◌, ◌-◌, ◌^◌, ◌<◌, ◌≤◌, Bool, true, false, cond, T, ltb, List, [], ◌∷◌, ◌++◌, length, get_or, set, ℤ, pos, ◌-ℤ◌, int_eq, Some, None, Option, sym, refl, ap, ◌∙◌, inl, inr, arith, w32, to_z, of_z}
+use Rattle.std.specs.Option.{option_eq}
 use Rattle.std.proofs.lemmas.List.{length-append, length_push}
 use Rattle.std.proofs.lemmas.Bool.{ltb-false, cases_lt}
-use Rattle.store.specs.Pairs.{Pairs}
+use Rattle.store.specs.Pairs.{Pairs, Means, ranged}
 use Rattle.span.specs.declared.writing.Lengths.{Lengths}
 use Rattle.span.specs.Spans.{Spans, filled, runs, differences, spans, deltas}
 use Rattle.span.specs.Faults.{either}
 use Rattle.span.specs.Writing.{measure_refusal, write_refusal, laid}
 use Rattle.span.proofs.Climbing.{after}
 use Rattle.span.proofs.Steps.{runs_grow, last_count, differences_more, length_differences, laid_more, laid_last, laid_at}
-use Rattle.span.proofs.Seen.{Seen, lists_more, too_large, seen_new, spans_new, seen_longer, spans_same}
+use Rattle.span.proofs.Seen.{Seen, lists_more, too_large, seen_place, joins, starts, seen_new, spans_new, seen_longer, spans_same}
 
 -- buffers that are long enough, for counts that are small enough
 pub record Ready (ps : Pairs) (s d : ℕ) : Type 0 where
@@ -42,7 +43,7 @@ module _ {ps ys rest rest' : Pairs} {q : ℤ × ℕ} {end : Option ℤ} {n : Len
             absurd (let z : ◌≡◌ {A = ℕ} 0 1 = cc in omega arith)
       ]
 
-  pub seen_deltas : (m : ℕ) → length (deltas ps) ≤ m → n.deltas + 1 ≤ m
+  seen_deltas : (m : ℕ) → length (deltas ps) ≤ m → n.deltas + 1 ≤ m
   seen_deltas m h =
       let k = ap length (lists_more seen e) in
       let l = length-append (ys ++ q ∷ []) rest' in
@@ -69,7 +70,7 @@ module _ {ps ys rest rest' : Pairs} {q : ℤ × ℕ} {end : Option ℤ} {n : Len
 
   -- q starts a span
   module _ (apart : end ≡ Some q.0 → ⊥) where
-    pub new_fits : (m : ℕ) → length (spans ps) ≤ m → n.spans + 1 ≤ m
+    new_fits : (m : ℕ) → length (spans ps) ≤ m → n.spans + 1 ≤ m
     new_fits m h = let r = seen_room m h in let s = spans_new seen e apart in omega arith
 
     pub laying_new : (ss ss' : Spans) {ss'' : Spans} {offset : ℤ} → ss'' ≡ set ss' n.spans (offset, 1) → offset ≡ q.0 -ℤ after ys → length (spans ps) ≤ length ss → ss' ≡ laid (runs ys) ss → ss'' ≡ laid (runs (ys ++ q ∷ [])) ss
@@ -85,7 +86,7 @@ module _ {ps ys rest rest' : Pairs} {q : ℤ × ℕ} {end : Option ℤ} {n : Len
 
   -- q lengthens the last span
   module _ (joined : end ≡ Some q.0) where
-    pub last_fits : (m : ℕ) → length (spans ps) ≤ m → (0 < n.spans) × (n.spans ≤ m)
+    last_fits : (m : ℕ) → length (spans ps) ≤ m → (0 < n.spans) × (n.spans ≤ m)
     last_fits m h =
         let r = seen_room m h in
         let s = spans_same seen e joined in
@@ -118,3 +119,15 @@ module _ {ps ys rest rest' : Pairs} {q : ℤ × ℕ} {end : Option ℤ} {n : Len
         ∙ ap (λ xs. set xs (length l.done) (l.offset, l.size + 1)) (w ∙ ap (λ xs. laid xs ss) l.was)
         ∙ laid_last l.done ss (l.offset, l.size) (l.offset, l.size + 1)
         ∙ ap (λ xs. laid xs ss) (sym l.is)
+
+-- room in buffers of s spans and d deltas, for pairs that are not refused
+module _ {ps ys rest rest' : Pairs} {q : ℤ × ℕ} {end : Option ℤ} {n : Lengths} (s d : ℕ) (none : write_refusal ps s d ≡ None) (seen : Seen ps ys rest end n) (e : rest ≡ q ∷ rest') where
+  pub room_for_delta : n.deltas + 1 ≤ d
+  room_for_delta = seen_deltas seen e d (ready ps s d none).of_deltas
+
+  module _ (m : Means ps) (t : T (ranged ps)) where
+    pub room_in_last : option_eq int_eq end (Some (to_z w32 (of_z w32 q.0))) ≡ true → (0 < n.spans) × (n.spans ≤ s)
+    room_in_last b = last_fits seen e (joins (seen_place seen e m t) end b) s (ready ps s d none).of_spans
+
+    pub room_for_span : option_eq int_eq end (Some (to_z w32 (of_z w32 q.0))) ≡ false → n.spans + 1 ≤ s
+    room_for_span b = new_fits seen e (starts (seen_place seen e m t) end b) s (ready ps s d none).of_spans

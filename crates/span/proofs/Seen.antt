@@ -11,7 +11,7 @@ use Rattle.span.specs.declared.writing.Lengths.{Lengths}
 use Rattle.span.specs.Spans.{filled, runs}
 use Rattle.span.specs.Writing.{measure_refusal}
 use Rattle.span.proofs.Climbing.{Climbs, climbs, climbs_filled, refusal_filled, end_of, end_more, after, Place, place}
-use Rattle.span.proofs.Steps.{Lengthens, runs_more, runs_new}
+use Rattle.span.proofs.Steps.{Lengthens, runs_more, runs_new, runs_few}
 
 -- ys is listed, `rest` is ahead; the index after ys, and its spans and deltas
 pub record Seen (ps ys rest : Pairs) (end : Option ℤ) (n : Lengths) : Type 0 where
@@ -21,9 +21,9 @@ pub record Seen (ps ys rest : Pairs) (end : Option ℤ) (n : Lengths) : Type 0 w
   pub of_spans : n.spans ≡ length (runs ys)
   pub of_deltas : n.deltas ≡ length ys
 
-pub seen_none : (ps rest : Pairs) → rest ≡ filled ps → Seen ps [] rest None (record { spans = 0; deltas = 0 })
-seen_none ps rest e =
-    record { lists = e; counts = ap measure_refusal e ∙ refusal_filled ps; of_end = refl; of_spans = refl; of_deltas = refl }
+pub seen_none : (ps rest : Pairs) (n : Lengths) → rest ≡ filled ps → n.spans ≡ 0 → n.deltas ≡ 0 → Seen ps [] rest None n
+seen_none ps rest n e s d =
+    record { lists = e; counts = ap measure_refusal e ∙ refusal_filled ps; of_end = refl; of_spans = s; of_deltas = d }
 
 -- one more, q
 module _ {ps ys rest rest' : Pairs} {q : ℤ × ℕ} {end : Option ℤ} {n : Lengths} (seen : Seen ps ys rest end n) (e : rest ≡ q ∷ rest') where
@@ -42,6 +42,14 @@ module _ {ps ys rest rest' : Pairs} {q : ℤ × ℕ} {end : Option ℤ} {n : Len
   seen_place m t =
       place ys q rest'
       (subst (Climbs (negsuc 274943)) (sym (ap (λ xs. ys ++ xs) (sym e) ∙ seen.lists)) (climbs_filled (negsuc 274943) ps (climbs ps m.rises t)))
+
+  pub seen_few : Means ps → T (ranged ps) → (n.spans < 2 ^ 20) × (n.deltas < 2 ^ 20)
+  seen_few m t =
+      let f = (seen_place m t).few in
+      let s = seen.of_spans in
+      let d = seen.of_deltas in
+      let r = runs_few ys in
+      (omega arith, omega arith)
 
   -- q starts a span
   module _ (apart : end ≡ Some q.0 → ⊥) where

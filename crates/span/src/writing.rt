@@ -10,7 +10,7 @@ use store::BucketStore;
 const LARGEST_COUNT: u64 = i64::MAX as u64;
 
 // How many spans and how many deltas pairs are written as.
-#[derive(Clone, Copy, PartialEq, Eq, Debug)]
+#[derive(Clone, Copy, PartialEq, Eq, Debug, Default)]
 pub struct Lengths {
     pub spans: usize,
     pub deltas: usize,
@@ -20,10 +20,7 @@ pub struct Lengths {
 pub fn measure<S: BucketStore>(store: &S) -> Result<Lengths, WriteFault>
     ensures { Measured (S.BucketStore.pairs store.now) result }
 {
-    let mut lengths = Lengths {
-        spans: 0,
-        deltas: 0,
-    };
+    let mut lengths = Lengths::default();
     let mut end = None;
     for (index, count) in Filled::new(store) {
         if count > LARGEST_COUNT {
@@ -62,10 +59,7 @@ fn fill<S: BucketStore>(store: &S, spans: &mut [(i32, u32)], deltas: &mut [i64])
     requires { write_refusal (S.BucketStore.pairs store.now) (length spans.old) (length deltas.old) ≡ None }
     ensures { Laid (S.BucketStore.pairs store.now) spans.old deltas.old spans.new deltas.new }
 {
-    let mut written = Lengths {
-        spans: 0,
-        deltas: 0,
-    };
+    let mut written = Lengths::default();
     let mut end = None;
     let mut previous = 0;
     for (index, count) in Filled::new(store) {

@@ -5,53 +5,36 @@ use Rattle.span.specs.Writing.{laid}
 use Rattle.span.proofs.Climbing.{after}
 use Rattle.span.proofs.Steps.{last_count, last_more}
 use Rattle.span.proofs.Seen.{seen_none, seen_place, starts, joins, after_is, spans_new, spans_same, seen_more, seen_all}
-use Rattle.span.proofs.Laying.{ready, seen_small, seen_deltas, new_fits, last_fits, last_short, laying_deltas, laying_new, laying_last}
+use Rattle.span.proofs.Laying.{ready, seen_small, last_short, laying_deltas, laying_new, laying_last, room_for_delta, room_in_last, room_for_span}
 use Rattle.span.proofs.writing.fill.Goals as goal
 use Rattle.span.proofs.writing.fill.Goals.{then-eq, else-eq}
 
 pub loop-index-init : goal.loop-index-init
 loop-index-init g c = (
-  seen_none (g.S.BucketStore.pairs c.args.store.now) _ (c.into_iter-index-iterator.ensures.into_iter_gives ∙ c.new-index-items.ensures),
+  seen_none (g.S.BucketStore.pairs c.args.store.now) _ _ (c.into_iter-index-iterator.ensures.into_iter_gives ∙ c.new-index-items.ensures) (search rules) (search rules),
   record { of_spans = refl; of_deltas = refl; before = refl },
 )
 
 pub offset_bounds-deltas-written : goal.offset_bounds-deltas-written
-offset_bounds-deltas-written g c =
-    let r = ready (g.S.BucketStore.pairs c.args.store.now) (length c.args.spans.now) (length c.args.deltas.now) c.requires in
-    let k = seen_deltas c.loop-index.invariant.0 c.in-Some.ensures.steps (length c.args.deltas.now) r.of_deltas in
-    search rules
+offset_bounds-deltas-written g c = let k = room_for_delta (length c.args.spans.now) (length c.args.deltas.now) c.requires c.loop-index.invariant.0 c.in-Some.ensures.steps in search rules
 
 pub bounds-deltas-written : goal.bounds-deltas-written
-bounds-deltas-written g c =
-    let r = ready (g.S.BucketStore.pairs c.args.store.now) (length c.args.spans.now) (length c.args.deltas.now) c.requires in
-    let k = seen_deltas c.loop-index.invariant.0 c.in-Some.ensures.steps (length c.args.deltas.now) r.of_deltas in
-    omega arith
+bounds-deltas-written g c = let k = room_for_delta (length c.args.spans.now) (length c.args.deltas.now) c.requires c.loop-index.invariant.0 c.in-Some.ensures.steps in omega arith
 
 pub overflow_add-written : goal.overflow_add-written
-overflow_add-written g c =
-    let r = ready (g.S.BucketStore.pairs c.args.store.now) (length c.args.spans.now) (length c.args.deltas.now) c.requires in
-    let k = seen_deltas c.loop-index.invariant.0 c.in-Some.ensures.steps (length c.args.deltas.now) r.of_deltas in
-    search rules
+overflow_add-written g c = let k = room_for_delta (length c.args.spans.now) (length c.args.deltas.now) c.requires c.loop-index.invariant.0 c.in-Some.ensures.steps in search rules
 
 pub overflow_sub-spans : goal.overflow_sub-spans
 overflow_sub-spans g c =
     let met = g.met.S.BucketStore in
-    let s = c.loop-index.invariant.0 in
-    let e = c.in-Some.ensures.steps in
-    let r = ready (g.S.BucketStore.pairs c.args.store.now) (length c.args.spans.now) (length c.args.deltas.now) c.requires in
-    let p = seen_place s e (met.means c.args.store.now) (met.in_range c.args.store.now) in
-    let f = last_fits s e (joins p _ (sym c.eq.ensures ∙ c.if-eq.true)) (length c.args.spans.now) r.of_spans in
-    omega (arith, f.0)
+    let k = room_in_last (length c.args.spans.now) (length c.args.deltas.now) c.requires c.loop-index.invariant.0 c.in-Some.ensures.steps (met.means c.args.store.now) (met.in_range c.args.store.now) (sym c.eq.ensures ∙ c.if-eq.true) in
+    omega (arith, k.0, k.1)
 
 pub bounds-spans-written : goal.bounds-spans-written
 bounds-spans-written g c =
     let met = g.met.S.BucketStore in
-    let s = c.loop-index.invariant.0 in
-    let e = c.in-Some.ensures.steps in
-    let r = ready (g.S.BucketStore.pairs c.args.store.now) (length c.args.spans.now) (length c.args.deltas.now) c.requires in
-    let p = seen_place s e (met.means c.args.store.now) (met.in_range c.args.store.now) in
-    let f = last_fits s e (joins p _ (sym c.eq.ensures ∙ c.if-eq.true)) (length c.args.spans.now) r.of_spans in
-    omega (arith, f.0, f.1)
+    let k = room_in_last (length c.args.spans.now) (length c.args.deltas.now) c.requires c.loop-index.invariant.0 c.in-Some.ensures.steps (met.means c.args.store.now) (met.in_range c.args.store.now) (sym c.eq.ensures ∙ c.if-eq.true) in
+    omega (arith, k.0, k.1)
 
 pub overflow_add-spans : goal.overflow_add-spans
 overflow_add-spans g c =
@@ -66,12 +49,8 @@ overflow_add-spans g c =
 pub bounds-spans-written-then-eq : goal.bounds-spans-written-then-eq
 bounds-spans-written-then-eq g c =
     let met = g.met.S.BucketStore in
-    let s = c.loop-index.invariant.0 in
-    let e = c.in-Some.ensures.steps in
-    let r = ready (g.S.BucketStore.pairs c.args.store.now) (length c.args.spans.now) (length c.args.deltas.now) c.requires in
-    let p = seen_place s e (met.means c.args.store.now) (met.in_range c.args.store.now) in
-    let f = last_fits s e (joins p _ (sym c.eq.ensures ∙ c.if-eq.true)) (length c.args.spans.now) r.of_spans in
-    omega (arith, f.0, f.1)
+    let k = room_in_last (length c.args.spans.now) (length c.args.deltas.now) c.requires c.loop-index.invariant.0 c.in-Some.ensures.steps (met.means c.args.store.now) (met.in_range c.args.store.now) (sym c.eq.ensures ∙ c.if-eq.true) in
+    omega (arith, k.0, k.1)
 
 pub overflow_sub-spans-else-eq : goal.overflow_sub-spans-else-eq
 overflow_sub-spans-else-eq g c =
@@ -88,11 +67,7 @@ overflow_sub-spans-else-eq g c =
 pub bounds-spans-written-else-eq : goal.bounds-spans-written-else-eq
 bounds-spans-written-else-eq g c =
     let met = g.met.S.BucketStore in
-    let s = c.loop-index.invariant.0 in
-    let e = c.in-Some.ensures.steps in
-    let r = ready (g.S.BucketStore.pairs c.args.store.now) (length c.args.spans.now) (length c.args.deltas.now) c.requires in
-    let p = seen_place s e (met.means c.args.store.now) (met.in_range c.args.store.now) in
-    let f = new_fits s e (starts p _ (sym c.eq.ensures ∙ c.if-eq.false)) (length c.args.spans.now) r.of_spans in
+    let k = room_for_span (length c.args.spans.now) (length c.args.deltas.now) c.requires c.loop-index.invariant.0 c.in-Some.ensures.steps (met.means c.args.store.now) (met.in_range c.args.store.now) (sym c.eq.ensures ∙ c.if-eq.false) in
     omega arith
 
 pub overflow_add-end : goal.overflow_add-end

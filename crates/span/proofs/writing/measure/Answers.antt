@@ -2,14 +2,14 @@ use Rattle.std.proofs.Common.{length, Some, sym, ap, ◌∙◌, arith, rules}
 use Rattle.std.proofs.lemmas.Int.{ints}
 use Rattle.std.proofs.lemmas.Bool.{not-true, not-false}
 use Rattle.span.specs.Spans.{filled, runs}
-use Rattle.span.proofs.Steps.{runs_few, length_differences}
-use Rattle.span.proofs.Seen.{seen_none, too_large, seen_place, index_is, after_is, starts, joins, spans_new, spans_same, seen_more, seen_all, seen_allowed}
+use Rattle.span.proofs.Steps.{length_differences}
+use Rattle.span.proofs.Seen.{seen_none, too_large, seen_place, seen_few, index_is, after_is, starts, joins, spans_new, spans_same, seen_more, seen_all, seen_allowed}
 use Rattle.span.proofs.writing.measure.Goals as goal
 use Rattle.span.proofs.writing.measure.Goals.{then-ne, else-ne}
 
 pub loop-index-init : goal.loop-index-init
 loop-index-init g c =
-    seen_none (g.S.BucketStore.pairs c.args.store.now) _ (c.into_iter-index-iterator.ensures.into_iter_gives ∙ c.new-index-items.ensures)
+    seen_none (g.S.BucketStore.pairs c.args.store.now) _ _ (c.into_iter-index-iterator.ensures.into_iter_gives ∙ c.new-index-items.ensures) (search rules) (search rules)
 
 pub returns-then-count-gt-LARGEST_COUNT : goal.returns-then-count-gt-LARGEST_COUNT
 returns-then-count-gt-LARGEST_COUNT g c =
@@ -21,18 +21,13 @@ returns-then-count-gt-LARGEST_COUNT g c =
 pub overflow_add-lengths : goal.overflow_add-lengths
 overflow_add-lengths g c =
     let met = g.met.S.BucketStore in
-    let p = seen_place c.loop-index.invariant c.in-Some.ensures.steps (met.means c.args.store.now) (met.in_range c.args.store.now) in
-    let f = p.few in
-    let n = c.loop-index.invariant.of_deltas in
+    let f = (seen_few c.loop-index.invariant c.in-Some.ensures.steps (met.means c.args.store.now) (met.in_range c.args.store.now)).1 in
     search rules
 
 pub overflow_add-lengths-then-ne : goal.overflow_add-lengths-then-ne
 overflow_add-lengths-then-ne g c =
     let met = g.met.S.BucketStore in
-    let p = seen_place c.loop-index.invariant c.in-Some.ensures.steps (met.means c.args.store.now) (met.in_range c.args.store.now) in
-    let f = p.few in
-    let n = c.loop-index.invariant.of_spans in
-    let k = runs_few c.loop-index.yielded in
+    let f = (seen_few c.loop-index.invariant c.in-Some.ensures.steps (met.means c.args.store.now) (met.in_range c.args.store.now)).0 in
     search rules
 
 pub overflow_add-end : goal.overflow_add-end
