@@ -108,11 +108,3 @@ loop-index-preserved g c =
           )
     ]
 
-pub returns : goal.returns
-returns g c =
-    let y = c.loop-index.invariant.1 in
-    let all = seen_all c.loop-index.invariant.0 c.in-None.ensures.steps.0 in
-    record {
-      of_spans = y.of_spans ∙ ap (λ xs. laid (runs xs) c.args.spans.now) all;
-      of_deltas = y.of_deltas ∙ ap (λ xs. laid (differences 0 xs) c.args.deltas.now) all;
-    }

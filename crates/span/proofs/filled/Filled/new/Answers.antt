@@ -11,9 +11,3 @@ invariant_of-result g c =
     let h = s.high in
     record { low = omega (arith, ints); high = omega (arith, ints) }
 
-pub returns : goal.returns
-returns g c =
-    let ps = g.S.BucketStore.pairs c.args.store.now in
-    let f : SFits w32 c.map_or.result = search rules in
-    ap (ahead ps 0) (to_z-of_z w32 c.map_or.result f)
-    ∙ (starts ps c.pair.result c.map_or.result (g.met.S.BucketStore.in_range c.args.store.now) c.pair.ensures c.map_or.ensures (λ p q. search rules)).all
