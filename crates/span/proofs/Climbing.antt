@@ -1,14 +1,13 @@
 -- Pairs whose indices rise and stay in range, as one chain of bounds, and the filled list.
 use Rattle.std.proofs.Common.{◌≡◌, ℕ, ◌^◌, ◌<◌, T, [], ◌∷◌, ◌++◌, length, ℤ, pos, negsuc, ◌+ℤ◌, ◌≤ℤ◌, Some, None, Option, unwrap_or, refl, ap, arith}
 use Rattle.std.proofs.lemmas.Int.{ints}
+use Rattle.std.proofs.lemmas.Grind.{common_steps}
 use Rattle.std.proofs.lemmas.Bool.{cond_both}
 use Rattle.store.specs.Pairs.{Pairs, same, rising, ranged}
 use Rattle.store.proofs.Order.{same_true}
-use Rattle.store.proofs.Bounds.{Above, From, rising_tail, rising_above}
-use Rattle.store.proofs.Range.{ranged_first, ranged_tail}
+use Rattle.store.proofs.Bounds.{Above, rising_above}
 use Rattle.span.specs.Spans.{filler, filled, filled_from}
 use Rattle.span.specs.Writing.{measure_refusal}
-use Rattle.span.proofs.Filling.{ranges}
 
 -- the indices rise from `low` on, and end in range
 abbrev pub Climbs : ℤ → Pairs → Type 0
@@ -19,22 +18,13 @@ pub climbs_top : (low : ℤ) (ps : Pairs) → Climbs low ps → (low +ℤ pos (l
 climbs_top low [] h = omega (arith, ints)
 climbs_top low (p ∷ ps) h = let a = h.0 in let b = climbs_top (p.0 +ℤ pos 1) ps h.1 in omega (arith, ints)
 
-from_next : (i : ℤ) (ps : Pairs) → Above i ps → From (i +ℤ pos 1) ps
-from_next i [] a = tt
-from_next i (p ∷ ps) a = (let h = a.0 in omega (arith, ints), from_next i ps a.1)
-
-climbs_from : (low : ℤ) (ps : Pairs) → low ≤ℤ pos 262146 → From low ps → T (rising ps) → T (ranged ps) → Climbs low ps
-climbs_from low [] h f r t = h
-climbs_from low (p ∷ ps) h f r t =
-    let k = ranges p.0 (ranged_first p ps t) in
-    (f.0, climbs_from (p.0 +ℤ pos 1) ps (let l = k.high in omega (arith, ints)) (from_next p.0 ps (rising_above p ps r)) (rising_tail p ps r) (ranged_tail p ps t))
-
-from_range : (ps : Pairs) → T (ranged ps) → From (negsuc 274943) ps
-from_range [] t = tt
-from_range (p ∷ ps) t = ((ranges p.0 (ranged_first p ps t)).low, from_range ps (ranged_tail p ps t))
+climbs_after : (i : ℤ) (ps : Pairs) → Above i ps → T (rising ps) → T (ranged ps) → (i +ℤ pos 1) ≤ℤ pos 262146 → Climbs (i +ℤ pos 1) ps
+climbs_after i [] a r t h = h
+climbs_after i (p ∷ ps) a r t h = grind (arith, ints, climbs_after p.0 ps, rising_above p ps)
 
 pub climbs : (ps : Pairs) → T (rising ps) → T (ranged ps) → Climbs (negsuc 274943) ps
-climbs ps r t = climbs_from (negsuc 274943) ps (omega (arith, ints)) (from_range ps t) r t
+climbs [] r t = omega (arith, ints)
+climbs (p ∷ ps) r t = grind (arith, ints, climbs_after p.0 ps, rising_above p ps)
 
 -- the three ways of a gap
 pub by_filler : (P : Pairs → Type 0) (next i : ℤ) → (i ≡ next +ℤ pos 1 → P ((next, 0) ∷ [])) → (i ≡ next +ℤ pos 2 → P ((next, 0) ∷ (next +ℤ pos 1, 0) ∷ [])) → P [] → P (filler next i)
@@ -60,9 +50,7 @@ climbs_filled low (p ∷ ps) h = (h.0, climbs_filled_from (p.0 +ℤ pos 1) ps h.
 -- filling changes no refusal of counts
 refusal_from : (next : ℤ) (ps : Pairs) → measure_refusal (filled_from next ps) ≡ measure_refusal ps
 refusal_from next [] = refl
-refusal_from next (p ∷ ps) =
-    let e : measure_refusal (p ∷ filled_from (p.0 +ℤ pos 1) ps) ≡ measure_refusal (p ∷ ps) = rw (refusal_from (p.0 +ℤ pos 1) ps) in
-    by_filler (λ xs. measure_refusal (xs ++ p ∷ filled_from (p.0 +ℤ pos 1) ps) ≡ measure_refusal (p ∷ ps)) next p.0 (λ _. e) (λ _. e) e
+refusal_from next (p ∷ ps) = grind (arith, common_steps, refusal_from (p.0 +ℤ pos 1) ps)
 
 pub refusal_filled : (ps : Pairs) → measure_refusal (filled ps) ≡ measure_refusal ps
 refusal_filled [] = refl

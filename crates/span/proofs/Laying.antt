@@ -1,12 +1,11 @@
 -- What a loop over the filled pairs has written.
-use Rattle.std.proofs.Common.{◌≡◌, ℕ, ◌+◌, ◌-◌, ◌^◌, ◌<◌, ◌≤◌, Bool, true, false, cond, T, ltb, List, [], ◌∷◌, ◌++◌, length, get_or, set, ℤ, pos, ◌-ℤ◌, int_eq, Some, None, Option, sym, refl, ap, ◌∙◌, inl, inr, arith, w32, to_z, of_z}
+use Rattle.std.proofs.Common.{◌≡◌, ℕ, ◌+◌, ◌-◌, ◌^◌, ◌<◌, ◌≤◌, true, false, T, List, [], ◌∷◌, ◌++◌, length, get_or, set, ℤ, pos, ◌-ℤ◌, int_eq, Some, None, Option, sym, ap, ◌∙◌, inl, inr, arith, w32, to_z, of_z}
 use Rattle.std.specs.Option.{option_eq}
 use Rattle.std.proofs.lemmas.List.{length-append, length_push}
-use Rattle.std.proofs.lemmas.Bool.{ltb-false, cases_lt}
+use Rattle.std.proofs.lemmas.Bool.{cases_lt}
 use Rattle.store.specs.Pairs.{Pairs, Means, ranged}
 use Rattle.span.specs.declared.writing.Lengths.{Lengths}
 use Rattle.span.specs.Spans.{Spans, filled, runs, differences, spans, deltas}
-use Rattle.span.specs.Faults.{either}
 use Rattle.span.specs.Writing.{measure_refusal, write_refusal, laid}
 use Rattle.span.proofs.Climbing.{after}
 use Rattle.span.proofs.Steps.{runs_grow, last_count, differences_more, length_differences, laid_more, laid_last, laid_at}
@@ -19,13 +18,7 @@ pub record Ready (ps : Pairs) (s d : ℕ) : Type 0 where
   pub of_deltas : length (deltas ps) ≤ d
 
 pub ready : (ps : Pairs) (s d : ℕ) → write_refusal ps s d ≡ None → Ready ps s d
-ready ps s d e = go (measure_refusal ps) refl (ltb s (length (spans ps))) refl (ltb d (length (deltas ps))) refl e
-  where
-    go : (o : Option (ℕ × ℤ)) → measure_refusal ps ≡ o → (a : Bool) → ltb s (length (spans ps)) ≡ a → (b : Bool) → ltb d (length (deltas ps)) ≡ b → either o (cond a (Some (9, pos 1)) (cond b (Some (9, pos 2)) None)) ≡ None → Ready ps s d
-    go (Some f) k a l b m h = absurd (let z : ◌≡◌ {A = ℕ} 0 1 = cc in omega arith)
-    go None k true l b m h = absurd (let z : ◌≡◌ {A = ℕ} 0 1 = cc in omega arith)
-    go None k false l true m h = absurd (let z : ◌≡◌ {A = ℕ} 0 1 = cc in omega arith)
-    go None k false l false m h = record { small = k; of_spans = ltb-false _ _ l; of_deltas = ltb-false _ _ m }
+ready ps s d e = record { small = grind arith; of_spans = grind arith; of_deltas = grind arith }
 
 -- of ss and ds the starts are written, and `previous` is the count last written
 pub record Laying (ys : Pairs) (ss : Spans) (ds : List ℤ) (ss' : Spans) (ds' : List ℤ) (previous : ℤ) : Type 0 where

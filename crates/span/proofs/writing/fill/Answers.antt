@@ -1,10 +1,8 @@
-use Rattle.std.proofs.Common.{◌≡◌, [], ◌∷◌, ◌++◌, length, pos, ◌-ℤ◌, unwrap_or, sym, refl, ap, ◌∙◌, arith, w32, w64, to_z, of_z, rules}
+use Rattle.std.proofs.Common.{◌≡◌, length, pos, unwrap_or, sym, refl, ap, ◌∙◌, arith, rules}
 use Rattle.std.proofs.lemmas.Int.{ints}
-use Rattle.span.specs.Spans.{runs, differences}
-use Rattle.span.specs.Writing.{laid}
 use Rattle.span.proofs.Climbing.{after}
-use Rattle.span.proofs.Steps.{last_count, last_more}
-use Rattle.span.proofs.Seen.{seen_none, seen_place, starts, joins, after_is, spans_new, spans_same, seen_more, seen_all}
+use Rattle.span.proofs.Steps.{last_more}
+use Rattle.span.proofs.Seen.{seen_none, seen_place, starts, joins, after_is, spans_new, spans_same, seen_more}
 use Rattle.span.proofs.Laying.{ready, seen_small, last_short, laying_deltas, laying_new, laying_last, room_for_delta, room_in_last, room_for_span}
 use Rattle.span.proofs.writing.fill.Goals as goal
 use Rattle.span.proofs.writing.fill.Goals.{then-eq, else-eq}

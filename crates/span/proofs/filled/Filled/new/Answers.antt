@@ -1,6 +1,5 @@
-use Rattle.std.proofs.Common.{◌∙◌, ap, arith, w32, SFits, rules}
-use Rattle.std.proofs.lemmas.Int.{ints, to_z-of_z}
-use Rattle.span.specs.Spans.{ahead}
+use Rattle.std.proofs.Common.{arith, rules}
+use Rattle.std.proofs.lemmas.Int.{ints}
 use Rattle.span.proofs.Filling.{starts}
 use Rattle.span.proofs.filled.Filled.new.Goals as goal
 
