@@ -130,7 +130,7 @@ reading_back ps w =
     let e : lengths (runs (filled ps)) ≡ length (differences 0 (filled ps)) = lengths_runs fs ∙ sym (length_differences 0 fs) in
     record {
       accepted =
-          none_from _ _ (cond-true _ _ _ (eq-eqb (lengths (runs fs)) (length (differences 0 fs)) e))
+          none_from _ _ (grind arith)
           (none_from _ _ (lone_none (runs fs) (runs_none fs (climbs_filled (negsuc 274943) ps (climbs ps w.rises w.ranges))))
           (counts_none 0 0 fs (refusal_filled ps ∙ w.small)));
       pairs =

@@ -10,11 +10,7 @@ use Rattle.span.specs.Spans.{Spans}
 use Rattle.span.specs.Readers.{Passes}
 use Rattle.span.specs.Reading.{lengths_refusal, span_refusal, spans_refusal, lone, lone_or_refusal, counts_refusal, inside, counts_fit, Sound}
 
--- of two refusals there is none
-none_both : (a b : Option (ℕ × ℤ)) → either a b ≡ None → (a ≡ None) × (b ≡ None)
-none_both (Some f) b e = grind arith
-none_both None b e = (refl, e)
-
+-- two refusals are none where each is
 pub none_from : (a b : Option (ℕ × ℤ)) → a ≡ None → b ≡ None → either a b ≡ None
 none_from a b e f = ap (λ x. either x b) e ∙ f
 
