@@ -3,7 +3,7 @@ use Rattle.std.proofs.Common.{◌≡◌, ℕ, zero, suc, ◌+◌, ◌<◌, false
 use lib.Signed.{lt_z}
 use Rattle.std.proofs.lemmas.Int.{ints}
 use Rattle.std.proofs.lemmas.Grind.{common_steps}
-use Rattle.std.proofs.lemmas.Bool.{cond-true, cond_both, eq-eqb, and_right}
+use Rattle.std.proofs.lemmas.Bool.{cond_both, and_right}
 use Rattle.store.specs.Pairs.{Pairs, same, counted}
 use Rattle.store.proofs.Order.{same_true, not_lt_z}
 use Rattle.span.specs.Spans.{Spans, filled, filled_from, spans_from, runs, differences}

@@ -3,6 +3,7 @@ use Rattle.std.proofs.Common.{◌≡◌, ℕ, zero, suc, ◌+◌, ◌^◌, ◌<�
 use lib.Signed.{le_z, lt_z, ◌<ℤ◌}
 use Rattle.std.specs.Option.{MatchOption}
 use Rattle.std.proofs.lemmas.Int.{ints}
+use Rattle.std.proofs.lemmas.Grind.{common_steps}
 use Rattle.index.specs.Index.{in_index_range}
 use Rattle.store.specs.Pairs.{Pairs, Means, counted, ranged, total, pair_at}
 use Rattle.store.proofs.Bounds.{counted_first, counted_tail}
@@ -39,9 +40,9 @@ few_pairs ps m = omega (arith, length_in_total ps m.counts, m.bounded)
 
 -- what is listed from a position on
 pub drop_pair : (ps : Pairs) (k : ℕ) (p : ℤ × ℕ) → pair_at ps k ≡ Some p → drop k ps ≡ p ∷ drop (k + 1) ps
-drop_pair [] k p e = absurd (let z : ◌≡◌ {A = ℕ} 0 1 = cc in omega arith)
-drop_pair (q ∷ qs) zero p e = let f : q ≡ p = cc in ap (λ x. x ∷ qs) f
-drop_pair (q ∷ qs) (suc k) p e = drop_pair qs k p e ∙ ap (λ n. p ∷ drop n (q ∷ qs)) (let f : suc (k + 1) ≡ suc k + 1 = omega arith in f)
+drop_pair [] k p e = grind arith
+drop_pair (q ∷ qs) zero p e = grind arith
+drop_pair (q ∷ qs) (suc k) p e = grind (arith, common_steps, drop_pair qs k p)
 
 pub drop_none : (ps : Pairs) (k : ℕ) → pair_at ps k ≡ None → drop k ps ≡ []
 drop_none [] zero e = refl

@@ -1,7 +1,7 @@
 -- One more bucket: what it does to the spans, the deltas and the buffers.
 use Rattle.std.proofs.Common.{◌≡◌, ℕ, suc, ◌+◌, ◌<◌, ◌≤◌, Bool, true, false, cond, List, [], ◌∷◌, ◌++◌, length, get_or, drop, set, ℤ, pos, ◌+ℤ◌, ◌-ℤ◌, is_some, Some, unwrap_or, sym, refl, ap, ◌∙◌, append_assoc, arith}
 use borrow.Author.Tests.{clash}
-use Rattle.std.proofs.lemmas.List.{set_at, get_or_at, drop_more, length_push}
+use Rattle.std.proofs.lemmas.List.{set_at, drop_more, length_push}
 use Rattle.std.proofs.lemmas.Int.{ints}
 use Rattle.std.proofs.lemmas.Grind.{common_steps}
 use Rattle.std.proofs.lemmas.Bool.{cond-true}
@@ -103,4 +103,4 @@ module _ {X : Type 0} (xs buffer : List X) where
       ∙ sym (append_assoc xs (y ∷ []) _)
 
   pub laid_at : (x d : X) → get_or (laid (xs ++ x ∷ []) buffer) (length xs) d ≡ x
-  laid_at x d = ap (λ ys. get_or ys (length xs) d) (append_assoc xs (x ∷ []) _) ∙ get_or_at xs x _ d (length xs) refl
+  laid_at x d = grind (arith, common_steps)

@@ -1,13 +1,11 @@
 -- The buckets still to be read, one step at a time.
-use Rattle.std.proofs.Common.{◌≡◌, ℕ, zero, suc, ◌-◌, ◌^◌, ◌<◌, T, List, [], ◌∷◌, ◌++◌, length, ℤ, pos, negsuc, ◌+ℤ◌, nat_abs, ◌≤ℤ◌, sym, refl, ap, ◌∙◌, subst, arith, w32, w64, SFits, to_z, of_z}
-use lib.Signed.{le_z, le_z_yes}
+use Rattle.std.proofs.Common.{◌≡◌, ℕ, zero, suc, ◌-◌, ◌^◌, ◌<◌, T, List, [], ◌∷◌, ◌++◌, length, ℤ, pos, negsuc, ◌+ℤ◌, nat_abs, ◌≤ℤ◌, sym, refl, ap, arith, w32, w64, SFits, to_z, of_z}
 use Rattle.std.proofs.lemmas.List.{nil_from_length}
 use Rattle.std.proofs.lemmas.Int.{ints}
-use Rattle.store.proofs.Bounds.{and_T}
 use Rattle.span.specs.declared.reader.BucketReader.{BucketReader}
 use Rattle.span.specs.Spans.{Spans}
 use Rattle.span.specs.Readers.{reader_buckets}
-use Rattle.span.specs.Reading.{consecutive, indices, listing, inside, countable, counts_fit, unread, Sound}
+use Rattle.span.specs.Reading.{consecutive, indices, listing, inside, unread, Sound}
 
 listing_none : (is : List ℤ) (before : ℤ) → listing is before [] ≡ []
 listing_none [] before = refl

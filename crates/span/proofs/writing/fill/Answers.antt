@@ -105,4 +105,3 @@ loop-index-preserved g c =
             record { of_spans = laying_new s e a c.args.spans.now c.loop-index.spans w.spans-is (omega (arith, ints)) r.of_spans y.of_spans; of_deltas = deltas; before = omega (arith, ints) },
           )
     ]
-

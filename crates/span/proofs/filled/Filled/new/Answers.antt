@@ -9,4 +9,3 @@ invariant_of-result g c =
     let l = s.low in
     let h = s.high in
     record { low = omega (arith, ints); high = omega (arith, ints) }
-
