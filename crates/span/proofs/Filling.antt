@@ -1,11 +1,12 @@
 -- The pairs with short gaps filled, as they are listed one after another.
-use Rattle.std.proofs.Common.{◌≡◌, ℕ, zero, suc, ◌+◌, ◌^◌, ◌<◌, ◌≤◌, true, false, T, ◌⊎◌, [], ◌∷◌, length, drop, ℤ, pos, negsuc, ◌+ℤ◌, ◌-ℤ◌, ◌≤ℤ◌, Some, None, sym, refl, ap, ◌∙◌, inl, inr, arith, w32, to_z, of_z}
-use lib.Signed.{le_z, lt_z, le_z_yes, ◌<ℤ◌}
+use Rattle.std.proofs.Common.{◌≡◌, ℕ, zero, suc, ◌+◌, ◌^◌, ◌<◌, ◌≤◌, true, false, T, ◌⊎◌, [], ◌∷◌, length, drop, ℤ, pos, negsuc, ◌+ℤ◌, ◌-ℤ◌, ◌≤ℤ◌, Some, None, Option, sym, refl, ap, ◌∙◌, inl, inr, arith, w32, to_z, of_z}
+use lib.Signed.{le_z, lt_z, ◌<ℤ◌}
+use Rattle.std.specs.Option.{MatchOption}
 use Rattle.std.proofs.lemmas.Int.{ints}
+use Rattle.std.proofs.lemmas.Grind.{common_steps}
 use Rattle.index.specs.Index.{in_index_range}
 use Rattle.store.specs.Pairs.{Pairs, Means, counted, ranged, total, pair_at}
-use Rattle.store.proofs.Order.{same_from, same_not}
-use Rattle.store.proofs.Bounds.{and_T, counted_first, counted_tail}
+use Rattle.store.proofs.Bounds.{counted_first, counted_tail}
 use Rattle.store.proofs.Range.{ranged_first, ranged_tail}
 use Rattle.span.specs.Spans.{filled, filled_from, ahead}
 
@@ -15,9 +16,7 @@ pub record Ranges (i : ℤ) : Type 0 where
   pub high : i ≤ℤ pos 262145
 
 pub ranges : (i : ℤ) → T (in_index_range i) → Ranges i
-ranges i t =
-    let r = and_T (le_z (negsuc 274943) i) (le_z i (pos 262145)) t in
-    record { low = le_z_yes r.0; high = le_z_yes r.1 }
+ranges i t = record { low = grind (arith, ints); high = grind (arith, ints) }
 
 -- a pair that stands at a position
 pub pair_ranges : (ps : Pairs) (k : ℕ) (p : ℤ × ℕ) → T (ranged ps) → pair_at ps k ≡ Some p → Ranges p.0
@@ -28,9 +27,9 @@ pair_ranges (q ∷ qs) zero p t e =
 pair_ranges (q ∷ qs) (suc k) p t e = pair_ranges qs k p (ranged_tail q qs t) e
 
 pub pair_within : (ps : Pairs) (k : ℕ) (p : ℤ × ℕ) → pair_at ps k ≡ Some p → k < length ps
-pair_within [] k p e = absurd (let z : ◌≡◌ {A = ℕ} 0 1 = cc in omega arith)
+pair_within [] k p e = grind arith
 pair_within (q ∷ qs) zero p e = omega arith
-pair_within (q ∷ qs) (suc k) p e = let h = pair_within qs k p e in omega arith
+pair_within (q ∷ qs) (suc k) p e = omega (arith, pair_within qs k p e)
 
 pub length_in_total : (ps : Pairs) → T (counted ps) → length ps ≤ total ps
 length_in_total [] t = omega arith
@@ -41,48 +40,50 @@ few_pairs ps m = omega (arith, length_in_total ps m.counts, m.bounded)
 
 -- what is listed from a position on
 pub drop_pair : (ps : Pairs) (k : ℕ) (p : ℤ × ℕ) → pair_at ps k ≡ Some p → drop k ps ≡ p ∷ drop (k + 1) ps
-drop_pair [] k p e = absurd (let z : ◌≡◌ {A = ℕ} 0 1 = cc in omega arith)
-drop_pair (q ∷ qs) zero p e = let f : q ≡ p = cc in ap (λ x. x ∷ qs) f
-drop_pair (q ∷ qs) (suc k) p e = drop_pair qs k p e ∙ ap (λ n. p ∷ drop n (q ∷ qs)) (let f : suc (k + 1) ≡ suc k + 1 = omega arith in f)
+drop_pair [] k p e = grind arith
+drop_pair (q ∷ qs) zero p e = grind arith
+drop_pair (q ∷ qs) (suc k) p e = grind (arith, common_steps, drop_pair qs k p)
 
 pub drop_none : (ps : Pairs) (k : ℕ) → pair_at ps k ≡ None → drop k ps ≡ []
 drop_none [] zero e = refl
 drop_none [] (suc k) e = refl
-drop_none (q ∷ qs) zero e = absurd (let z : ◌≡◌ {A = ℕ} 0 1 = cc in omega arith)
+drop_none (q ∷ qs) zero e = grind arith
 drop_none (q ∷ qs) (suc k) e = drop_none qs k e
 
 pub ahead_none : (ps : Pairs) (k : ℕ) (next : ℤ) → pair_at ps k ≡ None → ahead ps k next ≡ []
 ahead_none ps k next e = ap (filled_from next) (drop_none ps k e)
 
 -- where `next` is not one or two below the index of the pair, the pair is next
-pub ahead_pair : (ps : Pairs) (k : ℕ) (next : ℤ) (p : ℤ × ℕ) → pair_at ps k ≡ Some p → (p.0 ≡ next +ℤ pos 1 → ⊥) → (p.0 ≡ next +ℤ pos 2 → ⊥) → ahead ps k next ≡ p ∷ ahead ps (k + 1) (p.0 +ℤ pos 1)
-ahead_pair ps k next p e one two =
-    ap (filled_from next) (drop_pair ps k p e)
-    ∙ rw (same_not p.0 (next +ℤ pos 1) one, same_not p.0 (next +ℤ pos 2) two)
+ahead_pair : (ps : Pairs) (k : ℕ) (next : ℤ) (p : ℤ × ℕ) → pair_at ps k ≡ Some p → (p.0 ≡ next +ℤ pos 1 → ⊥) → (p.0 ≡ next +ℤ pos 2 → ⊥) → ahead ps k next ≡ p ∷ ahead ps (k + 1) (p.0 +ℤ pos 1)
+ahead_pair ps k next p e one two = rw (drop_pair ps k p e) (grind (arith, ints))
 
 -- where it is, `next` is, with count 0
-pub ahead_one : (ps : Pairs) (k : ℕ) (next : ℤ) (p : ℤ × ℕ) → pair_at ps k ≡ Some p → p.0 ≡ next +ℤ pos 1 → ahead ps k next ≡ (next, 0) ∷ ahead ps k (next +ℤ pos 1)
-ahead_one ps k next p e one =
-    ap (filled_from next) (drop_pair ps k p e)
-    ∙ rw (same_from p.0 (next +ℤ pos 1) one)
-    (ap (λ xs. (next, 0) ∷ xs) (sym (ahead_pair ps k (next +ℤ pos 1) p e (λ f. omega (arith, ints)) (λ f. omega (arith, ints)))))
-
-pub ahead_two : (ps : Pairs) (k : ℕ) (next : ℤ) (p : ℤ × ℕ) → pair_at ps k ≡ Some p → p.0 ≡ next +ℤ pos 2 → ahead ps k next ≡ (next, 0) ∷ ahead ps k (next +ℤ pos 1)
-ahead_two ps k next p e two =
-    ap (filled_from next) (drop_pair ps k p e)
-    ∙ rw (same_not p.0 (next +ℤ pos 1) (λ f. omega (arith, ints)), same_from p.0 (next +ℤ pos 2) two)
-    (ap (λ xs. (next, 0) ∷ xs)
-    (ap (λ xs. (next +ℤ pos 1, 0) ∷ xs) (sym (ahead_pair ps k (next +ℤ pos 1 +ℤ pos 1) p e (λ f. omega (arith, ints)) (λ f. omega (arith, ints))))
-    ∙ sym (ahead_one ps k (next +ℤ pos 1) p e (omega (arith, ints)))))
+ahead_zero : (ps : Pairs) (k : ℕ) (next : ℤ) (p : ℤ × ℕ) → pair_at ps k ≡ Some p → (p.0 ≡ next +ℤ pos 1) ⊎ (p.0 ≡ next +ℤ pos 2) → ahead ps k next ≡ (next, 0) ∷ ahead ps k (next +ℤ pos 1)
+ahead_zero ps k next p e short = rw (drop_pair ps k p e) (grind (arith, ints))
 
 -- the start
-pub ahead_start : (ps : Pairs) (p : ℤ × ℕ) → pair_at ps 0 ≡ Some p → ahead ps 0 p.0 ≡ filled ps
+ahead_start : (ps : Pairs) (p : ℤ × ℕ) → pair_at ps 0 ≡ Some p → ahead ps 0 p.0 ≡ filled ps
 ahead_start ps p e =
     ahead_pair ps 0 p.0 p e (λ f. omega (arith, ints)) (λ f. omega (arith, ints))
     ∙ sym (ap filled (drop_pair ps 0 p e))
 
-pub ahead_empty : (ps : Pairs) (next : ℤ) → pair_at ps 0 ≡ None → ahead ps 0 next ≡ filled ps
+ahead_empty : (ps : Pairs) (next : ℤ) → pair_at ps 0 ≡ None → ahead ps 0 next ≡ filled ps
 ahead_empty ps next e = ahead_none ps 0 next e ∙ sym (ap filled (drop_none ps 0 e))
+
+-- where a walk of the pairs starts
+pub record Starts (ps : Pairs) (next : ℤ) : Type 0 where
+  pub low : negsuc 274943 ≤ℤ next
+  pub high : next ≤ℤ pos 262146
+  pub all : ahead ps 0 next ≡ filled ps
+
+pub starts : {Is : ℤ × ℕ → Type 0} (ps : Pairs) (o : Option (ℤ × ℕ)) (next : ℤ) → T (ranged ps) → o ≡ pair_at ps 0 → MatchOption o (next ≡ pos 0) Is → ((p : ℤ × ℕ) → Is p → next ≡ p.0) → Starts ps next
+starts ps None next t e z f = record { low = omega (arith, ints); high = omega (arith, ints); all = ahead_empty ps next (sym e) }
+starts ps (Some p) next t e z f =
+    let i = f p z in
+    let r = pair_ranges ps 0 p t (sym e) in
+    let l = r.low in
+    let h = r.high in
+    record { low = omega (arith, ints); high = omega (arith, ints); all = ap (ahead ps 0) i ∙ ahead_start ps p (sym e) }
 
 -- the gap from `next` to i, as the machine has it
 abbrev pub gap : ℤ → ℤ → ℤ
@@ -99,12 +100,10 @@ module _ (i next : ℤ) (r : Ranges i) (low : negsuc 274943 ≤ℤ next) (high :
       grind (arith, ints)
 
   pub gap_none : lt_z (pos 0) (gap i next) ≡ false → (i ≡ next +ℤ pos 1 → ⊥) × (i ≡ next +ℤ pos 2 → ⊥)
-  gap_none s =
-      let s' : lt_z (pos 0) (i -ℤ next) ≡ false = ap (lt_z (pos 0)) (sym gap_is) ∙ s in
-      (λ e. grind (arith, ints), λ e. grind (arith, ints))
+  gap_none s = let a = r.low in let b = r.high in (λ e. grind (arith, ints), λ e. grind (arith, ints))
 
   pub gap_long : pos 2 <ℤ gap i next → (i ≡ next +ℤ pos 1 → ⊥) × (i ≡ next +ℤ pos 2 → ⊥)
-  gap_long s = let s' : pos 2 <ℤ (i -ℤ next) = rw gap_is at s in (λ e. omega (arith, ints), λ e. omega (arith, ints))
+  gap_long s = let a = r.low in let b = r.high in (λ e. omega (arith, ints), λ e. omega (arith, ints))
 
 -- one index is listed: what is still ahead is shorter
 pub shorter : (xs ys : Pairs) (p : ℤ × ℕ) → xs ≡ p ∷ ys → length ys < length xs
@@ -118,7 +117,7 @@ module _ (ps : Pairs) (k : ℕ) (next : ℤ) (low : negsuc 274943 ≤ℤ next) (
       let b = r.high in
       let e : next ≡ to_z w32 (of_z w32 next) = omega (arith, ints) in
       let f : next +ℤ pos 1 ≡ to_z w32 (of_z w32 (to_z w32 (of_z w32 next) +ℤ pos 1)) = elim short [ inl s ↦ omega (arith, ints) | inr s ↦ omega (arith, ints) ] in
-      elim short [ inl s ↦ ahead_one ps k next (i, n) at s | inr s ↦ ahead_two ps k next (i, n) at s ]
+      ahead_zero ps k next (i, n) at short
       ∙ ap (λ x. (x, 0) ∷ ahead ps k (next +ℤ pos 1)) e
       ∙ ap (λ x. (to_z w32 (of_z w32 next), 0) ∷ ahead ps k x) f
 

@@ -6,4 +6,3 @@ pub mod Laying
 pub mod Unread
 pub mod Checks
 pub mod Back
-pub mod Road

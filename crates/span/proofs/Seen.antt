@@ -1,28 +1,32 @@
 -- What a loop over the filled pairs has seen.
-use Rattle.std.proofs.Common.{◌≡◌, ℕ, ◌+◌, ◌^◌, ◌<◌, T, ltb, ◌⊎◌, [], ◌∷◌, ◌++◌, length, ℤ, pos, negsuc, ◌+ℤ◌, Some, None, sym, refl, ap, ◌∙◌, subst, inl, inr, append_assoc, append-nil, arith, w32, Fits, to_z, of_z}
+use Rattle.std.proofs.Common.{◌≡◌, ℕ, true, false, ◌+◌, ◌^◌, ◌<◌, T, ltb, [], ◌∷◌, ◌++◌, length, ℤ, pos, negsuc, ◌+ℤ◌, ◌-ℤ◌, int_eq, is_some, Some, None, Option, unwrap_or, sym, refl, ap, ◌∙◌, subst, append_assoc, append-nil, arith, w32, to_z, of_z}
+use borrow.Author.Tests.{clash}
+use Rattle.std.specs.Option.{option_eq}
 use Rattle.std.proofs.lemmas.List.{length_push}
-use Rattle.std.proofs.lemmas.Int.{of_z-to_z}
-use Rattle.std.proofs.lemmas.Bool.{cond-true, cond-false, lt-ltb, le-ltb}
-use Rattle.store.specs.Pairs.{Pairs, rising, ranged}
+use Rattle.std.proofs.lemmas.Int.{ints}
+use Rattle.std.proofs.lemmas.Bool.{false≢true, both_ways, cond-true, cond-false, lt-ltb, le-ltb}
+use Rattle.std.proofs.lemmas.Bool.Decides.{Decides-int_eq}
+use Rattle.store.specs.Pairs.{Pairs, Means, ranged}
+use Rattle.span.specs.declared.writing.Lengths.{Lengths}
 use Rattle.span.specs.Spans.{filled, runs}
 use Rattle.span.specs.Writing.{measure_refusal}
-use Rattle.span.proofs.Climbing.{Climbs, climbs, climbs_filled, refusal_filled, after_from, Place, place}
-use Rattle.span.proofs.Steps.{Lengthens, runs_more, runs_new, after_more}
+use Rattle.span.proofs.Climbing.{Climbs, climbs, climbs_filled, refusal_filled, end_of, end_more, after, Place, place}
+use Rattle.span.proofs.Steps.{Lengthens, runs_more, runs_new, runs_few}
 
--- ys is listed, `rest` is ahead; the next index, and the spans and deltas so far
-pub record Seen (ps ys rest : Pairs) (next : ℤ) (spans deltas : ℕ) : Type 0 where
+-- ys is listed, `rest` is ahead; the index after ys, and its spans and deltas
+pub record Seen (ps ys rest : Pairs) (end : Option ℤ) (n : Lengths) : Type 0 where
   pub lists : ys ++ rest ≡ filled ps
   pub counts : measure_refusal rest ≡ measure_refusal ps
-  pub of_next : next ≡ after_from (pos 0) ys
-  pub of_spans : spans ≡ length (runs ys)
-  pub of_deltas : deltas ≡ length ys
+  pub of_end : end ≡ end_of ys
+  pub of_spans : n.spans ≡ length (runs ys)
+  pub of_deltas : n.deltas ≡ length ys
 
-pub seen_none : (ps rest : Pairs) → rest ≡ filled ps → Seen ps [] rest (pos 0) 0 0
-seen_none ps rest e =
-    record { lists = e; counts = ap measure_refusal e ∙ refusal_filled ps; of_next = refl; of_spans = refl; of_deltas = refl }
+pub seen_none : (ps rest : Pairs) (n : Lengths) → rest ≡ filled ps → n.spans ≡ 0 → n.deltas ≡ 0 → Seen ps [] rest None n
+seen_none ps rest n e s d =
+    record { lists = e; counts = ap measure_refusal e ∙ refusal_filled ps; of_end = refl; of_spans = s; of_deltas = d }
 
 -- one more, q
-module _ {ps ys rest rest' : Pairs} {q : ℤ × ℕ} {next : ℤ} {s d : ℕ} (seen : Seen ps ys rest next s d) (e : rest ≡ q ∷ rest') where
+module _ {ps ys rest rest' : Pairs} {q : ℤ × ℕ} {end : Option ℤ} {n : Lengths} (seen : Seen ps ys rest end n) (e : rest ≡ q ∷ rest') where
   pub lists_more : (ys ++ q ∷ []) ++ rest' ≡ filled ps
   lists_more = append_assoc ys (q ∷ []) rest' ∙ ap (λ xs. ys ++ xs) (sym e) ∙ seen.lists
 
@@ -30,59 +34,71 @@ module _ {ps ys rest rest' : Pairs} {q : ℤ × ℕ} {next : ℤ} {s d : ℕ} (s
   too_large h =
       sym seen.counts ∙ ap measure_refusal e ∙ cond-false (ltb q.1 (2 ^ 63)) _ _ (le-ltb q.1 (2 ^ 63) (omega arith))
 
-  pub counts_more : q.1 < 2 ^ 63 → measure_refusal rest' ≡ measure_refusal ps
+  counts_more : q.1 < 2 ^ 63 → measure_refusal rest' ≡ measure_refusal ps
   counts_more h =
       sym (cond-true (ltb q.1 (2 ^ 63)) _ _ (lt-ltb q.1 (2 ^ 63) h)) ∙ sym (ap measure_refusal e) ∙ seen.counts
 
-  pub seen_place : T (rising ps) → T (ranged ps) → Place ys q
-  seen_place r t =
+  pub seen_place : Means ps → T (ranged ps) → Place ys q
+  seen_place m t =
       place ys q rest'
-      (subst (Climbs (negsuc 274943)) (sym (ap (λ xs. ys ++ xs) (sym e) ∙ seen.lists)) (climbs_filled (negsuc 274943) ps (climbs ps r t)))
+      (subst (Climbs (negsuc 274943)) (sym (ap (λ xs. ys ++ xs) (sym e) ∙ seen.lists)) (climbs_filled (negsuc 274943) ps (climbs ps m.rises t)))
 
-  pub seen_new : (next' : ℤ) → next' ≡ q.0 +ℤ pos 1 → q.1 < 2 ^ 63 → (s ≡ 0) ⊎ (q.0 ≡ next → ⊥) → Seen ps (ys ++ q ∷ []) rest' next' (s + 1) (d + 1)
-  seen_new next' f h apart =
-      let n = seen.of_spans in
-      let m = seen.of_deltas in
-      let other : (length (runs ys) ≡ 0) ⊎ (q.0 ≡ after_from (pos 0) ys → ⊥) =
-      elim apart [ inl z ↦ inl (sym n ∙ z) | inr z ↦ inr (λ k. z (k ∙ sym seen.of_next)) ] in
-      record {
-        lists = lists_more;
-        counts = counts_more h;
-        of_next = f ∙ sym (after_more (pos 0) ys q);
-        of_spans = ap (λ k. k + 1) n ∙ sym (ap length (runs_new ys q other) ∙ length_push (runs ys) _);
-        of_deltas = ap (λ k. k + 1) m ∙ sym (length_push ys q);
-      }
+  pub seen_few : Means ps → T (ranged ps) → (n.spans < 2 ^ 20) × (n.deltas < 2 ^ 20)
+  seen_few m t =
+      let f = (seen_place m t).few in
+      let s = seen.of_spans in
+      let d = seen.of_deltas in
+      let r = runs_few ys in
+      (omega arith, omega arith)
 
-  pub seen_longer : (s ≡ 0 → ⊥) → q.0 ≡ next → Lengthens (runs ys) (runs (ys ++ q ∷ [])) (length ys)
-  seen_longer some joins =
-      let n = seen.of_spans in
-      let z : 0 < length (runs ys) = omega arith in
-      runs_more ys q z (joins ∙ seen.of_next)
+  -- q starts a span
+  module _ (apart : end ≡ Some q.0 → ⊥) where
+    pub seen_new : runs (ys ++ q ∷ []) ≡ runs ys ++ (q.0 -ℤ after ys, 1) ∷ []
+    seen_new = runs_new ys q (λ f. apart (seen.of_end ∙ f))
 
-  pub seen_more : (next' : ℤ) → next' ≡ q.0 +ℤ pos 1 → q.1 < 2 ^ 63 → (s ≡ 0 → ⊥) → q.0 ≡ next → Seen ps (ys ++ q ∷ []) rest' next' s (d + 1)
-  seen_more next' f h some joins =
-      let n = seen.of_spans in
-      let m = seen.of_deltas in
-      let l = seen_longer some joins in
-      record {
-        lists = lists_more;
-        counts = counts_more h;
-        of_next = f ∙ sym (after_more (pos 0) ys q);
-        of_spans = n ∙ ap length l.was ∙ length_push l.done _ ∙ sym (length_push l.done _) ∙ sym (ap length l.is);
-        of_deltas = ap (λ k. k + 1) m ∙ sym (length_push ys q);
-      }
+    pub spans_new : length (runs (ys ++ q ∷ [])) ≡ n.spans + 1
+    spans_new = ap length seen_new ∙ length_push (runs ys) _ ∙ ap (λ k. k + 1) (sym seen.of_spans)
+
+  -- q lengthens one
+  module _ (joins : end ≡ Some q.0) where
+    pub seen_longer : Lengthens (runs ys) (runs (ys ++ q ∷ [])) (length ys)
+    seen_longer = runs_more ys q (sym seen.of_end ∙ joins)
+
+    pub spans_same : length (runs (ys ++ q ∷ [])) ≡ n.spans
+    spans_same =
+        let l = seen_longer in
+        ap length l.is ∙ length_push l.done _ ∙ sym (length_push l.done _) ∙ sym (ap length l.was) ∙ sym seen.of_spans
+
+  pub seen_more : (i : ℤ) (n' : Lengths) → i ≡ q.0 +ℤ pos 1 → q.1 < 2 ^ 63 → n'.spans ≡ length (runs (ys ++ q ∷ [])) → n'.deltas ≡ n.deltas + 1 → Seen ps (ys ++ q ∷ []) rest' (Some i) n'
+  seen_more i n' f h s d = record {
+    lists = lists_more;
+    counts = counts_more h;
+    of_end = ap (λ x. Some x) f ∙ sym (end_more ys q);
+    of_spans = s;
+    of_deltas = d ∙ ap (λ k. k + 1) seen.of_deltas ∙ sym (length_push ys q);
+  }
 
 -- nothing is ahead
-module _ {ps ys rest : Pairs} {next : ℤ} {s d : ℕ} (seen : Seen ps ys rest next s d) (e : rest ≡ []) where
+module _ {ps ys rest : Pairs} {end : Option ℤ} {n : Lengths} (seen : Seen ps ys rest end n) (e : rest ≡ []) where
   pub seen_all : ys ≡ filled ps
   seen_all = sym (append-nil ys) ∙ ap (λ xs. ys ++ xs) (sym e) ∙ seen.lists
 
   pub seen_allowed : measure_refusal ps ≡ None
   seen_allowed = sym seen.counts ∙ ap measure_refusal e
 
--- an index and the next one, as the machine compares them
-pub differ : (i next : ℤ) {b : ℕ} → Fits w32 b → to_z w32 b ≡ next → (of_z w32 i ≡ b → ⊥) → i ≡ next → ⊥
-differ i next {b} k f n e = n (ap (of_z w32) (e ∙ sym f) ∙ of_z-to_z w32 b k.fits)
+-- the index of the pair that is next, as the machine has it
+module _ {ys : Pairs} {q : ℤ × ℕ} (p : Place ys q) where
+  pub index_is : to_z w32 (of_z w32 q.0) ≡ q.0
+  index_is = let l = p.index_low in let h = p.index_high in omega (arith, ints)
 
-pub agree : (i next : ℤ) {b : ℕ} → i ≡ to_z w32 (of_z w32 i) → to_z w32 b ≡ next → of_z w32 i ≡ b → i ≡ next
-agree i next r f e = r ∙ ap (to_z w32) e ∙ f
+  pub after_is : to_z w32 (of_z w32 (to_z w32 (of_z w32 q.0) +ℤ pos 1)) ≡ q.0 +ℤ pos 1
+  after_is = let l = p.index_low in let h = p.index_high in omega (arith, ints)
+
+  -- it is compared with the end
+  pub starts : (end : Option ℤ) → option_eq int_eq end (Some (to_z w32 (of_z w32 q.0))) ≡ false → end ≡ Some q.0 → ⊥
+  starts None h e = clash (ap is_some e)
+  starts (Some x) h e = both_ways _ h ((Decides-int_eq x _).1 (ap (λ o. unwrap_or o x) e ∙ sym index_is))
+
+  pub joins : (end : Option ℤ) → option_eq int_eq end (Some (to_z w32 (of_z w32 q.0))) ≡ true → end ≡ Some q.0
+  joins None h = absurd (false≢true h)
+  joins (Some x) h = ap (λ z. Some z) ((Decides-int_eq x _).0 h ∙ index_is)

@@ -1,13 +1,15 @@
 -- One more bucket: what it does to the spans, the deltas and the buffers.
-use Rattle.std.proofs.Common.{◌≡◌, ℕ, suc, ◌+◌, ◌<◌, ◌≤◌, Bool, true, false, cond, ◌⊎◌, List, [], ◌∷◌, ◌++◌, length, get_or, drop, set, ℤ, pos, ◌+ℤ◌, ◌-ℤ◌, sym, refl, ap, ◌∙◌, inl, inr, append_assoc, arith}
-use Rattle.std.proofs.lemmas.List.{set_at, get_or_at, drop_more, length_push}
+use Rattle.std.proofs.Common.{◌≡◌, ℕ, suc, ◌+◌, ◌<◌, ◌≤◌, Bool, true, false, cond, List, [], ◌∷◌, ◌++◌, length, get_or, drop, set, ℤ, pos, ◌+ℤ◌, ◌-ℤ◌, is_some, Some, unwrap_or, sym, refl, ap, ◌∙◌, append_assoc, arith}
+use borrow.Author.Tests.{clash}
+use Rattle.std.proofs.lemmas.List.{set_at, drop_more, length_push}
 use Rattle.std.proofs.lemmas.Int.{ints}
-use Rattle.std.proofs.lemmas.Bool.{cond-false, cond-true}
+use Rattle.std.proofs.lemmas.Grind.{common_steps}
+use Rattle.std.proofs.lemmas.Bool.{cond-true}
 use Rattle.store.specs.Pairs.{Pairs, same}
-use Rattle.store.proofs.Order.{same_from, same_not}
+use Rattle.store.proofs.Order.{same_from}
 use Rattle.span.specs.Spans.{Spans, spans_from, runs, differences}
 use Rattle.span.specs.Writing.{laid}
-use Rattle.span.proofs.Climbing.{after_from}
+use Rattle.span.proofs.Climbing.{after_from, end_of, after}
 
 -- the last span of `before` is one longer in `after`
 pub record Lengthens (before after : Spans) (most : ℕ) : Type 0 where
@@ -31,42 +33,29 @@ more_from o n next (p ∷ ys) q e = go (same p.0 next) (more_from o (n + 1) (p.0
         record { done = (o, n) ∷ r.done; offset = r.offset; size = r.size; was = ap (λ xs. (o, n) ∷ xs) r.was; is = ap (λ xs. (o, n) ∷ xs) r.is; short = omega arith }
 
 new_from : (o : ℤ) (n : ℕ) (next : ℤ) (ys : Pairs) (q : ℤ × ℕ) → (q.0 ≡ after_from next ys → ⊥) → spans_from o n next (ys ++ q ∷ []) ≡ spans_from o n next ys ++ (q.0 -ℤ after_from next ys, 1) ∷ []
-new_from o n next [] q e = cond-false (same q.0 next) _ _ (same_not q.0 next e)
-new_from o n next (p ∷ ys) q e = go (same p.0 next) _ _ _ _ _ (new_from o (n + 1) (p.0 +ℤ pos 1) ys q e) (new_from (p.0 -ℤ next) 1 (p.0 +ℤ pos 1) ys q e)
-  where
-    go : (t : Bool) (a b a' b' c : Spans) → a' ≡ a ++ c → b' ≡ b ++ c → cond t a' ((o, n) ∷ b') ≡ cond t a ((o, n) ∷ b) ++ c
-    go true a b a' b' c r _ = r
-    go false a b a' b' c _ r = ap (λ xs. (o, n) ∷ xs) r
+new_from o n next [] q e = grind (arith, ints)
+new_from o n next (p ∷ ys) q e = grind (arith, common_steps, new_from o (n + 1) (p.0 +ℤ pos 1) ys q, new_from (p.0 -ℤ next) 1 (p.0 +ℤ pos 1) ys q)
 
 some_from : (o : ℤ) (n : ℕ) (next : ℤ) (ys : Pairs) → 0 < length (spans_from o n next ys)
 some_from o n next [] = omega arith
-some_from o n next (p ∷ ys) = go (same p.0 next) _ _ (some_from o (n + 1) (p.0 +ℤ pos 1) ys)
-  where
-    go : (t : Bool) (a b : Spans) → 0 < length a → 0 < length (cond t a ((o, n) ∷ b))
-    go true a b h = h
-    go false a b h = omega arith
+some_from o n next (p ∷ ys) = grind (arith, some_from o (n + 1) (p.0 +ℤ pos 1) ys)
 
 -- an index right after the last lengthens the last span
-pub runs_more : (ys : Pairs) (q : ℤ × ℕ) → 0 < length (runs ys) → q.0 ≡ after_from (pos 0) ys → Lengthens (runs ys) (runs (ys ++ q ∷ [])) (length ys)
-runs_more [] q h e = absurd (omega arith)
-runs_more (p ∷ ys) q h e =
-    let r = more_from p.0 1 (p.0 +ℤ pos 1) ys q e in
+pub runs_more : (ys : Pairs) (q : ℤ × ℕ) → end_of ys ≡ Some q.0 → Lengthens (runs ys) (runs (ys ++ q ∷ [])) (length ys)
+runs_more [] q e = absurd (clash (ap is_some e))
+runs_more (p ∷ ys) q e =
+    let r = more_from p.0 1 (p.0 +ℤ pos 1) ys q (ap (λ o. unwrap_or o q.0) (sym e)) in
     let s = r.short in
     record { done = r.done; offset = r.offset; size = r.size; was = r.was; is = r.is; short = omega arith }
 
 -- any other index, and the first, starts a span
-pub runs_new : (ys : Pairs) (q : ℤ × ℕ) → (length (runs ys) ≡ 0) ⊎ (q.0 ≡ after_from (pos 0) ys → ⊥) → runs (ys ++ q ∷ []) ≡ runs ys ++ (q.0 -ℤ after_from (pos 0) ys, 1) ∷ []
+pub runs_new : (ys : Pairs) (q : ℤ × ℕ) → (end_of ys ≡ Some q.0 → ⊥) → runs (ys ++ q ∷ []) ≡ runs ys ++ (q.0 -ℤ after ys, 1) ∷ []
 runs_new [] q h = ap (λ i. (i, 1) ∷ []) (let e : q.0 ≡ q.0 -ℤ pos 0 = omega (arith, ints) in e)
-runs_new (p ∷ ys) q (inl h) = absurd (let k = some_from p.0 1 (p.0 +ℤ pos 1) ys in omega arith)
-runs_new (p ∷ ys) q (inr h) = new_from p.0 1 (p.0 +ℤ pos 1) ys q h
+runs_new (p ∷ ys) q h = new_from p.0 1 (p.0 +ℤ pos 1) ys q (λ e. h (ap (λ x. Some x) (sym e)))
 
 grows_from : (o : ℤ) (n : ℕ) (next : ℤ) (ys zs : Pairs) → length (spans_from o n next ys) ≤ length (spans_from o n next (ys ++ zs))
-grows_from o n next [] zs = let h = some_from o n next zs in omega arith
-grows_from o n next (p ∷ ys) zs = go (same p.0 next) _ _ _ _ (grows_from o (n + 1) (p.0 +ℤ pos 1) ys zs) (grows_from (p.0 -ℤ next) 1 (p.0 +ℤ pos 1) ys zs)
-  where
-    go : (t : Bool) (a b a' b' : Spans) → length a ≤ length a' → length b ≤ length b' → length (cond t a ((o, n) ∷ b)) ≤ length (cond t a' ((o, n) ∷ b'))
-    go true a b a' b' r _ = r
-    go false a b a' b' _ r = omega arith
+grows_from o n next [] zs = some_from o n next zs
+grows_from o n next (p ∷ ys) zs = grind (arith, grows_from o (n + 1) (p.0 +ℤ pos 1) ys zs, grows_from (p.0 -ℤ next) 1 (p.0 +ℤ pos 1) ys zs)
 
 pub runs_grow : (ys zs : Pairs) → length (runs ys) ≤ length (runs (ys ++ zs))
 runs_grow [] zs = omega arith
@@ -74,19 +63,11 @@ runs_grow (p ∷ ys) zs = grows_from p.0 1 (p.0 +ℤ pos 1) ys zs
 
 few_from : (o : ℤ) (n : ℕ) (next : ℤ) (ys : Pairs) → length (spans_from o n next ys) ≤ suc (length ys)
 few_from o n next [] = omega arith
-few_from o n next (p ∷ ys) = go (same p.0 next) _ _ (few_from o (n + 1) (p.0 +ℤ pos 1) ys) (few_from (p.0 -ℤ next) 1 (p.0 +ℤ pos 1) ys)
-  where
-    go : (t : Bool) (a b : Spans) → length a ≤ suc (length ys) → length b ≤ suc (length ys) → length (cond t a ((o, n) ∷ b)) ≤ suc (suc (length ys))
-    go true a b r _ = omega arith
-    go false a b _ r = omega arith
+few_from o n next (p ∷ ys) = grind (arith, few_from o (n + 1) (p.0 +ℤ pos 1) ys, few_from (p.0 -ℤ next) 1 (p.0 +ℤ pos 1) ys)
 
 pub runs_few : (ys : Pairs) → length (runs ys) ≤ length ys
 runs_few [] = omega arith
 runs_few (p ∷ ys) = few_from p.0 1 (p.0 +ℤ pos 1) ys
-
-pub after_more : (next : ℤ) (ys : Pairs) (q : ℤ × ℕ) → after_from next (ys ++ q ∷ []) ≡ q.0 +ℤ pos 1
-after_more next [] q = refl
-after_more next (p ∷ ys) q = after_more (p.0 +ℤ pos 1) ys q
 
 -- the last count, which is `before` where there is none
 abbrev pub last_count : ℕ → Pairs → ℕ
@@ -122,4 +103,4 @@ module _ {X : Type 0} (xs buffer : List X) where
       ∙ sym (append_assoc xs (y ∷ []) _)
 
   pub laid_at : (x d : X) → get_or (laid (xs ++ x ∷ []) buffer) (length xs) d ≡ x
-  laid_at x d = ap (λ ys. get_or ys (length xs) d) (append_assoc xs (x ∷ []) _) ∙ get_or_at xs x _ d (length xs) refl
+  laid_at x d = grind (arith, common_steps)

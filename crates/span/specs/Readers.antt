@@ -1,5 +1,5 @@
 -- What a reader yields, and what opening one answers.
-use Rattle.std.specs.Prelude.{◌≡◌, ℕ, List, [], ◌∷◌, ℤ, pos, ◌+ℤ◌, Some, None, Ok, Err, Option, Result, MatchOption, unsigned_abs}
+use Rattle.std.specs.Prelude.{◌≡◌, ℕ, List, [], ◌∷◌, ℤ, pos, ◌+ℤ◌, Some, None, Ok, Err, Option, Result, MatchOption}
 use Rattle.store.specs.Pairs.{Pairs}
 use Rattle.span.specs.declared.faults.SpanFault.{SpanFault}
 use Rattle.span.specs.declared.reader.BucketReader.{BucketReader}
@@ -28,13 +28,13 @@ fault_of (Ok x) = None
 fault_of (Err f) = Some (span_fault f)
 
 -- what the check of the span s with the number k answers: the index after it
-pub record Passes (k next : ℤ) (s : ℤ × ℕ) (after : ℤ) : Type 0 where
-  pub allowed : span_refusal (unsigned_abs k) next s ≡ None
+pub record Passes (k : ℕ) (next : ℤ) (s : ℤ × ℕ) (after : ℤ) : Type 0 where
+  pub allowed : span_refusal k next s ≡ None
   pub follows : after ≡ next +ℤ s.0 +ℤ pos s.1
 
-abbrev pub Checked : ℤ → ℤ → ℤ × ℕ → Result ℤ SpanFault → Type 0
+abbrev pub Checked : ℕ → ℤ → ℤ × ℕ → Result ℤ SpanFault → Type 0
 Checked k next s (Ok after) = Passes k next s after
-Checked k next s (Err f) = span_refusal (unsigned_abs k) next s ≡ Some (span_fault f)
+Checked k next s (Err f) = span_refusal k next s ≡ Some (span_fault f)
 
 -- what opening answers: a reader of all pairs exactly if nothing is refused, else the first refusal
 pub record Opens (ss : Spans) (ds : List ℤ) (r : BucketReader) : Type 0 where

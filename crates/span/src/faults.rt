@@ -15,18 +15,17 @@ pub enum WriteFault {
 }
 
 impl WriteFault {
-    // The number of the refusal.
+    // The number of the refusal, as published.
     pub fn number(&self) -> u8
         ensures { result ≡ (write_fault self.now).0 }
     {
         match self {
             WriteFault::LargeCount(_) => 10,
-            WriteFault::FewSpans => 9,
-            WriteFault::FewDeltas => 9,
+            WriteFault::FewSpans | WriteFault::FewDeltas => 9,
         }
     }
 
-    // The place of the refusal: the index, or the buffer.
+    // The place of the refusal, as published: the index, or the buffer.
     pub fn place(&self) -> i64
         ensures { result ≡ (write_fault self.now).1 }
     {
@@ -75,7 +74,7 @@ pub enum SpanFault {
 }
 
 impl SpanFault {
-    // The number of the refusal.
+    // The number of the refusal, as published.
     pub fn number(&self) -> u8
         ensures { result ≡ (span_fault self.now).0 }
     {
@@ -88,15 +87,15 @@ impl SpanFault {
         }
     }
 
-    // The place of the refusal: the number of deltas, of the span or of the delta.
+    // The place of the refusal, as published: the number of deltas, of the span or of the delta.
     pub fn place(&self) -> i64
         ensures { result ≡ (span_fault self.now).1 }
     {
         match self {
             SpanFault::LengthSum(deltas) => *deltas,
-            SpanFault::EmptySpan(span) => *span,
-            SpanFault::BackwardSpan(span) => *span,
-            SpanFault::OutOfRange(span) => *span,
+            SpanFault::EmptySpan(span)
+            | SpanFault::BackwardSpan(span)
+            | SpanFault::OutOfRange(span) => *span,
             SpanFault::CountRange(delta) => *delta,
         }
     }

@@ -1,12 +1,11 @@
 // Opening a reader: spans and deltas of any origin are checked first.
-ghost use Rattle.std.specs.Prelude.{◌≡◌, pos, negsuc, ◌≤ℤ◌};
+ghost use Rattle.std.specs.Prelude.{◌≡◌, ◌^◌, ◌<◌, pos, negsuc, ◌≤ℤ◌};
 ghost use Rattle.index.specs.Index.{in_index_range};
-ghost use Rattle.span.specs.Reading.{lengths_refusal, lone, lone_or_refusal, countable, counts_refusal};
+ghost use Rattle.span.specs.Reading.{lengths, lengths_refusal, lone, lone_or_refusal, counts_refusal};
 ghost use Rattle.span.specs.Readers.{fault_of, Checked, Opened};
 
 use crate::faults::SpanFault;
 use crate::reader::{BucketReader, NativeHistogramBuckets};
-use index::{HIGHEST_INDEX, LOWEST_INDEX};
 
 impl<'a> NativeHistogramBuckets<'a> {
     // A reader of the pairs, or why there is none.
@@ -30,15 +29,18 @@ impl<'a> NativeHistogramBuckets<'a> {
 fn check_lengths(spans: &[(i32, u32)], deltas: &[i64]) -> Result<(), SpanFault>
     ensures { fault_of result ≡ lengths_refusal spans.now deltas.now }
 {
-    let mut sum = 0u128;
-    for span in spans {
-        sum += span.1 as u128;
-    }
-    if sum == deltas.len() as u128 {
+    if sum_of_lengths(spans) == deltas.len() as u128 {
         Ok(())
     } else {
         Err(SpanFault::LengthSum(deltas.len() as i64))
     }
+}
+
+// The sum of the lengths, which 64 bits may not hold.
+fn sum_of_lengths(spans: &[(i32, u32)]) -> u128
+    ensures { result ≡ lengths spans.now }
+{
+    spans.iter().map(|span| u128::from(span.1)).sum()
 }
 
 // Whether every span lists something, goes on and stays in range.
@@ -48,9 +50,9 @@ fn check_spans(spans: &[(i32, u32)]) -> Result<(), SpanFault>
     if is_lone(spans) {
         return Ok(());
     }
-    let mut next = 0i64;
+    let mut next = 0;
     for (number, span) in spans.iter().enumerate() {
-        next = check_span(number as i64, next, *span)?;
+        next = check_span(number, next, *span)?;
     }
     Ok(())
 }
@@ -59,26 +61,27 @@ fn check_spans(spans: &[(i32, u32)]) -> Result<(), SpanFault>
 fn is_lone(spans: &[(i32, u32)]) -> bool
     ensures { result ≡ lone spans.now }
 {
-    spans.len() == 1 && spans[0].0 == 0 && spans[0].1 == 0
+    spans == [(0, 0)].as_slice()
 }
 
 // The index after a span, whose offset counts from the index `next`.
-fn check_span(number: i64, next: i64, span: (i32, u32)) -> Result<i64, SpanFault>
-    requires counted { pos 0 ≤ℤ number }
+fn check_span(number: usize, next: i64, span: (i32, u32)) -> Result<i64, SpanFault>
+    requires place { number < 2 ^ 63 }
     requires low { negsuc 274943 ≤ℤ next }
     requires high { next ≤ℤ pos 262146 }
     ensures { Checked number next span result }
 {
+    let place = number as i64;
     if span.1 == 0 {
-        return Err(SpanFault::EmptySpan(number));
+        return Err(SpanFault::EmptySpan(place));
     }
     if number > 0 && span.0 < 0 {
-        return Err(SpanFault::BackwardSpan(number));
+        return Err(SpanFault::BackwardSpan(place));
     }
-    let first = next + span.0 as i64;
-    let after = first + span.1 as i64;
+    let first = next + i64::from(span.0);
+    let after = first + i64::from(span.1);
     if !in_range(first) || !in_range(after - 1) {
-        return Err(SpanFault::OutOfRange(number));
+        return Err(SpanFault::OutOfRange(place));
     }
     Ok(after)
 }
@@ -87,26 +90,19 @@ fn check_span(number: i64, next: i64, span: (i32, u32)) -> Result<i64, SpanFault
 fn in_range(index: i64) -> bool
     ensures { result ≡ in_index_range index }
 {
-    LOWEST_INDEX as i64 <= index && index <= HIGHEST_INDEX as i64
+    i32::try_from(index).is_ok_and(index::in_index_range)
 }
 
 // Whether every count is from 0 to 2^63 - 1.
 fn check_counts(deltas: &[i64]) -> Result<(), SpanFault>
     ensures { fault_of result ≡ counts_refusal 0 (pos 0) deltas.now }
 {
-    let mut count = 0i128;
+    let mut count = 0i64;
     for (number, delta) in deltas.iter().enumerate() {
-        count += *delta as i128;
-        if !is_count(count) {
-            return Err(SpanFault::CountRange(number as i64));
-        }
+        count = count
+            .checked_add(*delta)
+            .filter(|count| *count >= 0)
+            .ok_or(SpanFault::CountRange(number as i64))?;
     }
     Ok(())
-}
-
-// Whether the number is a count that deltas may lead to: 0 to 2^63 - 1.
-fn is_count(number: i128) -> bool
-    ensures { result ≡ countable number }
-{
-    0 <= number && number <= i64::MAX as i128
 }

@@ -1,4 +1,5 @@
 // Spans and deltas as they come, and a reader of those that have been checked.
+ghost use Rattle.span.specs.Reading.{Sound};
 
 // Spans (offset, length) and deltas of one side, as they were written.
 #[derive(Clone, Copy)]
@@ -19,4 +20,5 @@ pub struct BucketReader<'a> {
     pub(crate) left: u32,
     // the count read last
     pub(crate) count: i64,
+    pub ghost sound: { Sound index left spans.now count deltas.now },
 }

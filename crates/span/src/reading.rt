@@ -1,18 +1,17 @@
 // Reading pairs one after another.
 ghost use Rattle.std.specs.Prelude.{◌≡◌, ◌<◌, length};
 ghost use Rattle.std.specs.Iterator.{item_count};
-ghost use Rattle.span.specs.Readers.{reader_buckets, reader_pairs, ReaderSound, Gives};
+ghost use Rattle.span.specs.Readers.{reader_buckets, reader_pairs, Gives};
 
 use crate::reader::BucketReader;
 
 impl BucketReader<'_> {
-    // Begins spans until one lists something.
+    // Begins spans until one lists something, while there is something to read.
     fn begin_span(&mut self)
-        requires sound { ReaderSound self.old }
-        requires more { 0 < length self.old.deltas.now }
-        ensures sound { ReaderSound self.new }
+        requires { 0 < length self.old.deltas.now }
         ensures some { 0 < self.new.left }
         ensures same { reader_buckets self.new ≡ reader_buckets self.old }
+        ensures deltas { self.new.deltas ≡ self.old.deltas }
     {
         while self.left == 0 {
             let Some((span, spans)) = self.spans.split_first() else {
@@ -26,28 +25,21 @@ impl BucketReader<'_> {
 
     // The next bucket, with its count, which may be 0.
     fn next_bucket(&mut self) -> Option<(i32, u64)>
-        requires { ReaderSound self.old }
-        ensures sound { ReaderSound self.new }
-        ensures gives { Gives reader_buckets self.old result self.new }
+        ensures { Gives reader_buckets self.old result self.new }
     {
-        if self.deltas.is_empty() {
-            return None;
-        }
-        self.begin_span();
         let (delta, deltas) = self.deltas.split_first()?;
+        self.begin_span();
         let index = self.index;
-        self.deltas = deltas;
-        self.index = index + 1;
+        self.index += 1;
         self.left -= 1;
-        self.count += *delta;
-        Some((index, self.count as u64))
+        self.deltas = deltas;
+        self.count += delta;
+        Some((index, self.count.unsigned_abs()))
     }
 }
 
 impl Iterator for BucketReader<'_> {
     type Item = (i32, u64);
-
-    ghost can_next = { ReaderSound };
 
     ghost next_gives = { Gives reader_pairs };
 

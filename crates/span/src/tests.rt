@@ -14,14 +14,12 @@ fn refused<'x>(
     number: u8,
     place: i64,
 ) -> Result<(), Fail> {
-    match (NativeHistogramBuckets { spans, deltas }).read() {
-        Ok(_) => Err(Fail::new("nothing was refused")),
-        Err(fault) => {
-            assert_eq!(rt; fault.number(), number);
-            assert_eq!(rt; fault.place(), place);
-            Ok(())
-        }
-    }
+    let Err(fault) = (NativeHistogramBuckets { spans, deltas }).read() else {
+        return Err(Fail::new("nothing was refused"));
+    };
+    assert_eq!(rt; fault.number(), number);
+    assert_eq!(rt; fault.place(), place);
+    Ok(())
 }
 
 // Spans and deltas that the reader takes, with the number of pairs and the sum of their counts.

@@ -1,5 +1,5 @@
 // Writing the pairs of a store as spans and deltas.
-ghost use Rattle.std.specs.Prelude.{◌≡◌, ◌+◌, ◌^◌, ◌<◌, length, pos, ◌-ℤ◌, ◌≤ℤ◌, None};
+ghost use Rattle.std.specs.Prelude.{◌≡◌, length, None};
 ghost use Rattle.span.specs.Writing.{Measured, Written, Laid, write_refusal};
 
 use crate::faults::WriteFault;
@@ -7,10 +7,10 @@ use crate::filled::Filled;
 use store::BucketStore;
 
 // The largest count that a delta can lead to: 2^63 - 1.
-const LARGEST_COUNT: u64 = 0x7fff_ffff_ffff_ffff;
+const LARGEST_COUNT: u64 = i64::MAX as u64;
 
 // How many spans and how many deltas pairs are written as.
-#[derive(Clone, Copy, PartialEq, Eq, Debug)]
+#[derive(Clone, Copy, PartialEq, Eq, Debug, Default)]
 pub struct Lengths {
     pub spans: usize,
     pub deltas: usize,
@@ -20,20 +20,19 @@ pub struct Lengths {
 pub fn measure<S: BucketStore>(store: &S) -> Result<Lengths, WriteFault>
     ensures { Measured (S.BucketStore.pairs store.now) result }
 {
-    let mut spans = 0usize;
-    let mut deltas = 0usize;
-    let mut next = 0i32;
+    let mut lengths = Lengths::default();
+    let mut end = None;
     for (index, count) in Filled::new(store) {
         if count > LARGEST_COUNT {
             return Err(WriteFault::LargeCount(index));
         }
-        if spans == 0 || index != next {
-            spans += 1;
+        lengths.deltas += 1;
+        if end != Some(index) {
+            lengths.spans += 1;
         }
-        deltas += 1;
-        next = index + 1;
+        end = Some(index + 1);
     }
-    Ok(Lengths { spans, deltas })
+    Ok(lengths)
 }
 
 // Writes the pairs of the store as spans and deltas to the start of two buffers.
@@ -60,36 +59,20 @@ fn fill<S: BucketStore>(store: &S, spans: &mut [(i32, u32)], deltas: &mut [i64])
     requires { write_refusal (S.BucketStore.pairs store.now) (length spans.old) (length deltas.old) ≡ None }
     ensures { Laid (S.BucketStore.pairs store.now) spans.old deltas.old spans.new deltas.new }
 {
-    let mut span_count = 0usize;
-    let mut delta_count = 0usize;
-    let mut next = 0i32;
-    let mut previous = 0i64;
+    let mut written = Lengths::default();
+    let mut end = None;
+    let mut previous = 0;
     for (index, count) in Filled::new(store) {
-        if span_count == 0 || index != next {
-            spans[span_count] = (index - next, 0);
-            span_count += 1;
+        let count = count as i64;
+        deltas[written.deltas] = count - previous;
+        written.deltas += 1;
+        if end == Some(index) {
+            spans[written.spans - 1].1 += 1;
+        } else {
+            spans[written.spans] = (index - end.unwrap_or(0), 1);
+            written.spans += 1;
         }
-        append_delta(
-            &mut spans[span_count - 1],
-            &mut deltas[delta_count],
-            &mut previous,
-            count as i64,
-        );
-        delta_count += 1;
-        next = index + 1;
+        end = Some(index + 1);
+        previous = count;
     }
-}
-
-// Adds one bucket to the last span, and writes what its count is more than the one before.
-fn append_delta(span: &mut (i32, u32), delta: &mut i64, previous: &mut i64, count: i64)
-    requires room { span.old.1 + 1 < 2 ^ 32 }
-    requires before { pos 0 ≤ℤ previous.old }
-    requires after { pos 0 ≤ℤ count }
-    ensures longer { span.new ≡ (span.old.0, span.old.1 + 1) }
-    ensures more { delta.new ≡ count -ℤ previous.old }
-    ensures counted { previous.new ≡ count }
-{
-    span.1 += 1;
-    *delta = count - *previous;
-    *previous = count;
 }
