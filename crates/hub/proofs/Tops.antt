@@ -1,5 +1,5 @@
 -- The highest listed index is that of the last pair.
-use Rattle.std.proofs.Common.{◌≡◌, ℕ, ◌-◌, Bool, true, false, ◌||◌, T, [], ◌∷◌, length, get_or, ℤ, pos, ◌≤ℤ◌, is_some, Some, None, Option, unwrap_or, sym, refl, ap, ◌∙◌, subst, arith}
+use Rattle.std.proofs.Common.{◌≡◌, ℕ, ◌-◌, Bool, true, false, ◌||◌, T, [], ◌∷◌, length, get_or, ℤ, pos, ◌≤ℤ◌, is_some, Some, None, Option, MatchOption, unwrap_or, sym, refl, ap, ◌∙◌, subst, arith}
 use borrow.Author.Tests.{clash}
 use Rattle.std.proofs.lemmas.Int.{ints}
 use Rattle.store.specs.Pairs.{Pairs, rising, listed, same, pair_at}
@@ -29,7 +29,7 @@ last_place p ps = omega arith
 last_is : (p : ℤ × ℕ) (ps : Pairs) → pair_at (p ∷ ps) (length (p ∷ ps) - 1) ≡ Some (get_or (p ∷ ps) (length ps) (pos 0, 0))
 last_is p ps = ap (pair_at (p ∷ ps)) (last_place p ps) ∙ pair_at_in (p ∷ ps) (length ps) (pos 0, 0) (omega arith)
 
-pub last_highest : (ps : Pairs) (x : ℤ × ℕ) → T (rising ps) → Some x ≡ pair_at ps (length ps - 1) → Highest x.0 ps
+last_highest : (ps : Pairs) (x : ℤ × ℕ) → T (rising ps) → Some x ≡ pair_at ps (length ps - 1) → Highest x.0 ps
 last_highest [] x r e = absurd (clash (sym (ap is_some e)))
 last_highest (p ∷ ps) x r e =
     let same : (get_or (p ∷ ps) (length ps) (pos 0, 0)).0 ≡ x.0 = ap (λ (o : Option (ℤ × ℕ)). (unwrap_or o (pos 0, 0)).0) (sym (e ∙ last_is p ps)) in
@@ -38,10 +38,10 @@ last_highest (p ∷ ps) x r e =
       above = λ j t. last_above p ps j r t;
     })
 
-pub last_missing : (ps : Pairs) → None ≡ pair_at ps (length ps - 1) → ps ≡ []
+last_missing : (ps : Pairs) → None ≡ pair_at ps (length ps - 1) → ps ≡ []
 last_missing [] e = refl
 last_missing (p ∷ ps) e = absurd (clash (ap is_some (e ∙ last_is p ps)))
 
-pub empty_length : (ps : Pairs) → length ps ≡ 0 → ps ≡ []
-empty_length [] e = refl
-empty_length (p ∷ ps) e = absurd (omega arith)
+pub last_pair : (ps : Pairs) (o : Option (ℤ × ℕ)) → T (rising ps) → o ≡ pair_at ps (length ps - 1) → MatchOption o (ps ≡ []) (λ x. Highest x.0 ps)
+last_pair ps None r e = last_missing ps e
+last_pair ps (Some x) r e = last_highest ps x r e

@@ -6,6 +6,7 @@ use crate::plugs::Plug;
 use schema::Schema;
 use std::alloc::{AllocError, Global};
 use std::collections::BTreeMap;
+use store::StoreFault;
 
 #[derive(Drop)]
 pub struct Hub {
@@ -40,15 +41,13 @@ impl Hub {
 
     // The schema of the plug of the name, or the usual one.
     pub fn schema_of(&self, name: &str) -> Schema {
-        match self.plugs.get(name) {
-            Some(plug) => plug.schema,
-            None => usual_schema(),
-        }
+        self.plugs
+            .get(name)
+            .map_or_else(usual_schema, |plug| plug.schema)
     }
 
     // Files a reading under the plug of the name, if there is one.
-    pub fn file(&mut self, name: &str, value: f64) -> Option<Filed> {
-        let plug = self.plugs.get_mut(name)?;
-        Some(plug.file(value))
+    pub fn file(&mut self, name: &str, value: f64) -> Option<Result<Filed, StoreFault>> {
+        self.plugs.get_mut(name).map(|plug| plug.file(value))
     }
 }

@@ -15,12 +15,12 @@ mod written;
 use chosen::StoreKind;
 use filing::Side;
 use hubs::Hub;
-use log::{Cause, Entry, LineFault, parse_line, usual_schema};
+use log::{Entry, LineFault, parse_line, usual_schema};
 use report::{print_chart, print_plug};
 use schema::Schema;
 use std::io::{BufRead, BufReader};
 use std::{env, io};
-use written::{Written, read_back};
+use written::{FormError, Written, read_back};
 
 const HELP: &str = "\
 hub reads a log of inrush currents from standard input and says what it did. A line of the log is one of these:
@@ -47,19 +47,23 @@ fn file(rt: &HostRuntime, hub: &mut Hub, name: &str, value: f64) -> io::Result<(
         declare(rt, hub, name, StoreKind::Row, usual_schema())?;
     }
     match hub.file(name, value) {
-        Some(filed) => println!(rt; "{name}: {value} A, {filed}"),
+        Some(Ok(filed)) => println!(rt; "{name}: {value} A, {filed}"),
+        Some(Err(fault)) => println!(rt; "{name}: {value} A, not filed, {fault}"),
         None => Ok(()),
     }
 }
 
 fn read_spans(rt: &HostRuntime, hub: &Hub, name: &str, written: &Written) -> io::Result<()> {
-    match read_back(rt.alloc(), written)? {
+    match read_back(rt.alloc(), written) {
         Ok(pairs) => {
             let count = pairs.len();
             println!(rt; "{name}: spans and deltas of {count} buckets")?;
             print_chart(rt, hub.schema_of(name), Side::Positive, pairs.as_slice())
         }
-        Err(fault) => println!(rt; "{name}: spans and deltas are damaged, {fault}"),
+        Err(FormError::Refused(fault)) => {
+            println!(rt; "{name}: spans and deltas are damaged, {fault}")
+        }
+        Err(FormError::NoMemory(error)) => Err(error.into()),
     }
 }
 
@@ -68,10 +72,7 @@ fn record(rt: &HostRuntime, hub: &mut Hub, number: u64, entry: Entry) -> io::Res
         Entry::Nothing => Ok(()),
         Entry::Declared { name, kind, schema } => {
             if hub.knows(name) {
-                let fault = LineFault {
-                    cause: Cause::Again,
-                    word: name,
-                };
+                let fault = LineFault::Again(name);
                 return println!(rt; "line {number}: {fault}");
             }
             declare(rt, hub, name, kind, schema)
@@ -94,9 +95,8 @@ fn read_line(rt: &HostRuntime, hub: &mut Hub, number: u64, bytes: &[u8]) -> io::
 fn read_log(rt: &HostRuntime) -> io::Result<()> {
     let heap = rt.alloc();
     let mut hub = Hub::new(heap);
-    let mut number = 0u64;
-    for line in BufReader::new(heap, rt.stdin())?.split(heap, b'\n') {
-        number = number.saturating_add(1);
+    let lines = BufReader::new(heap, rt.stdin())?.split(heap, b'\n');
+    for (number, line) in (1..=u64::MAX).zip(lines) {
         read_line(rt, &mut hub, number, line?.as_slice())?;
     }
     print_hub(rt, &hub)

@@ -1,4 +1,4 @@
-use Rattle.std.proofs.Common.{◌≡◌, ℕ, List, [], ◌∷◌, ℤ, None, vec_items, Vec, sym, ap, ◌∙◌}
+use Rattle.std.proofs.Common.{◌≡◌, ℕ, List, [], ◌∷◌, ℤ, None, vec_items, Vec, sym, ap, ◌∙◌, rules}
 use Rattle.std.specs.Iterator.{Yields}
 use Rattle.std.specs.declared.alloc.Global.{Global}
 use Rattle.store.specs.Pairs.{Pairs}
@@ -21,10 +21,11 @@ gives_back w ss ds v r es ed o e = record {
   of_pairs = e ∙ o.yields ∙ ap (λ s. read_pairs s ds) es ∙ ap (read_pairs (vec_items w.spans)) ed;
 }
 
-pub returns-in_ok-collect-in-Ok : goal.returns-in_ok-collect-in-Ok
-returns-in_ok-collect-in-Ok c =
-    let ran = c.in_ok-collect-in-Ok.ensures.ran in
+pub returns : goal.returns
+returns c =
+    let ran = c.in_ok-collect.ensures.ran in
     let end = ran.1.2 tt in
-    gives_back c.args.written.now _ _ c.in_ok-collect-in-Ok.field-0 c.in-Ok.reader
-    c.as_slice.ensures.value c.as_slice-2.ensures.value c.in-Ok.ensures
-    (ran.2.0 ∙ all_read ran.0 c.in-Ok.reader ran.1.0 end.0 ran.1.1 end.1)
+    let o : Opens c.deref.result.now c.deref-2.result.now c.in_ok-reader.reader = search rules in
+    gives_back c.args.written.now _ _ c.in_ok-collect.field-0 c.in_ok-reader.reader
+    c.deref.ensures.value c.deref-2.ensures.value o
+    (ran.2.0 ∙ all_read ran.0 c.in_ok-reader.reader ran.1.0 end.0 ran.1.1 end.1)
