@@ -1,11 +1,11 @@
 // Filing readings under a plug.
 ghost use Rattle.std.specs.Prelude.{◌≡◌, [], MatchOption};
-ghost use Rattle.hub.specs.Chosen.{pairs_in};
+ghost use Rattle.hub.specs.Chosen.{pairs_in, kind_of};
 ghost use Rattle.hub.specs.Filing.{side_of, Empty, Files, Adds, Zeroed, Highest, Load};
 
-use crate::chosen::{Buckets, StoreKind};
-use crate::plugs::Plug;
-use schema::{Schema, bucket_index, positive_upper_bound};
+use crate::chosen::Buckets;
+use crate::plugs::{Plug, Settings};
+use schema::{bucket_index, positive_upper_bound};
 use std::fmt;
 use store::{BucketStore, StoreFault};
 
@@ -74,15 +74,25 @@ fn highest<S: BucketStore>(store: &S) -> Option<i32>
 
 impl Plug {
     // A plug with no readings.
-    pub fn new(kind: StoreKind, schema: Schema) -> Plug
-        ensures { Empty kind schema result }
+    pub fn new(settings: Settings) -> Plug
+        ensures { Empty settings.kind settings.schema result }
     {
         Plug {
-            schema,
-            positive: Buckets::new(kind),
-            negative: Buckets::new(kind),
+            schema: settings.schema,
+            positive: Buckets::new(settings.kind),
+            negative: Buckets::new(settings.kind),
             zeros: 0,
             readings: 0,
+        }
+    }
+
+    pub fn settings(&self) -> Settings
+        ensures kind { result.kind ≡ kind_of self.now.positive }
+        ensures schema { result.schema ≡ self.now.schema }
+    {
+        Settings {
+            kind: self.positive.kind(),
+            schema: self.schema,
         }
     }
 
@@ -111,6 +121,7 @@ impl Plug {
     }
 
     // Raises the index's count on a side.
+    #[tactic(auto, using(crate::proofs::Totals::total_bound))]
     fn add(&mut self, side: Side, index: i32) -> Result<(), StoreFault>
         ensures { Adds self.old side index result self.new }
     {

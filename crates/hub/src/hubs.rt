@@ -1,8 +1,7 @@
 // The plugs of a hub.
-use crate::chosen::StoreKind;
 use crate::filing::Filed;
 use crate::log::usual_schema;
-use crate::plugs::Plug;
+use crate::plugs::{Plug, Settings};
 use schema::Schema;
 use std::alloc::{AllocError, Global};
 use std::collections::BTreeMap;
@@ -31,11 +30,10 @@ impl Hub {
         &mut self,
         heap: Global,
         name: &str,
-        kind: StoreKind,
-        schema: Schema,
+        settings: Settings,
     ) -> Result<(), AllocError> {
         let key = String::from_str(heap, name)?;
-        self.plugs.insert(key, Plug::new(kind, schema))?;
+        self.plugs.insert(key, Plug::new(settings))?;
         Ok(())
     }
 

@@ -2,6 +2,7 @@
 ghost use Rattle.std.specs.Prelude.{◌≡◌, ◌<◌, length, pos, IfSome};
 
 use crate::chosen::StoreKind;
+use crate::plugs::Settings;
 use crate::written::Written;
 use schema::{Schema, SchemaFault};
 use std::alloc::{AllocError, Global};
@@ -19,22 +20,12 @@ pub fn usual_schema() -> Schema
 pub enum Entry<'a> {
     // it is blank or a comment
     Nothing,
-    // the plug keeps a store of the kind at the schema
-    Declared {
-        name: &'a str,
-        kind: StoreKind,
-        schema: Schema,
-    },
+    // the plug keeps its buckets so
+    Declared { name: &'a str, settings: Settings },
     // a current in amperes
-    Reading {
-        name: &'a str,
-        value: f64,
-    },
+    Reading { name: &'a str, value: f64 },
     // buckets of the plug, as another hub wrote them
-    Spans {
-        name: &'a str,
-        written: Written,
-    },
+    Spans { name: &'a str, written: Written },
 }
 
 // Why a line is not read, with the word that shows it.
@@ -70,17 +61,11 @@ pub enum LineFault<'a> {
 pub fn parse_line(heap: Global, line: &str) -> Result<Entry<'_>, LineFault<'_>> {
     let text = line.split_once('#').map_or(line, |(text, _)| text);
     let words: Vec<&str> = text.split_whitespace().collect(heap)?;
-    parse_words(heap, words.as_slice())
-}
-
-fn parse_words<'a>(heap: Global, words: &[&'a str]) -> Result<Entry<'a>, LineFault<'a>> {
-    let [first, rest @ ..] = words else {
-        return Ok(Entry::Nothing);
-    };
-    match *first {
-        "plug" => parse_plug(rest),
-        "spans" => parse_spans(heap, rest),
-        name => parse_reading(name, rest),
+    match words.as_slice() {
+        [] => Ok(Entry::Nothing),
+        ["plug", rest @ ..] => parse_plug(rest),
+        ["spans", rest @ ..] => parse_spans(heap, rest),
+        [name, rest @ ..] => parse_reading(name, rest),
     }
 }
 
@@ -107,7 +92,8 @@ fn parse_plug<'a>(words: &[&'a str]) -> Result<Entry<'a>, LineFault<'a>> {
         _ => (StoreKind::Row, options),
     };
     let schema = parse_schema(name, options)?;
-    Ok(Entry::Declared { name, kind, schema })
+    let settings = Settings { kind, schema };
+    Ok(Entry::Declared { name, settings })
 }
 
 // The schema that the options of the plug name, or the usual one.

@@ -1,6 +1,6 @@
 // What is printed of a plug.
 ghost use Rattle.std.specs.Int.{div_ceil};
-ghost use Rattle.std.specs.Prelude.{◌≡◌, ℕ, ◌*◌, ◌<◌, ◌≤◌, length, pos, if◌then◌else◌, nat_lt, slice_index_or};
+ghost use Rattle.std.specs.Prelude.{◌≡◌, ◌≢◌, ◌*◌, ◌≤◌, [], All, Contains, map, if◌then◌else◌, nat_lt};
 
 use crate::chosen::Buckets;
 use crate::filing::Side;
@@ -24,9 +24,11 @@ fn bar_width(count: u64, most: u64) -> usize
     share.div_ceil(u128::from(most)) as usize
 }
 
-// The highest count.
+// The highest count, 0 where there is none.
 fn highest_count(pairs: &[(i32, u64)]) -> u64
-    ensures { (k : ℕ) → k < length pairs.now → (slice_index_or pairs.now k (pos 0, 0)).1 ≤ result }
+    ensures highest { All (λ p. p.1 ≤ result) pairs.now }
+    ensures counted { pairs.now ≢ [] → Contains (map (λ p. p.1) pairs.now) result }
+    ensures none { pairs.now ≡ [] → result ≡ 0 }
 {
     pairs.iter().map(|pair| pair.1).max().unwrap_or(0)
 }
@@ -43,9 +45,9 @@ pub fn print_chart(
         Side::Positive => "up to ",
         Side::Negative => "down to -",
     };
-    for (index, count) in pairs {
-        let bound = positive_upper_bound(schema, *index);
-        let width = bar_width(*count, most);
+    for &(index, count) in pairs {
+        let bound = positive_upper_bound(schema, index);
+        let width = bar_width(count, most);
         let rest = usize::from(WIDEST) - width;
         println!(rt;
             "  {index:>7} {count:>4} {:#<width$}{:<rest$} {reach}{bound} A",
@@ -62,7 +64,7 @@ fn print_side(rt: &HostRuntime, schema: Schema, side: Side, store: &Buckets) -> 
         return Ok(());
     }
     println!(rt; "  {side}:")?;
-    print_chart(rt, schema, side, pairs.as_slice())?;
+    print_chart(rt, schema, side, &pairs)?;
     match write_out(rt.alloc(), store) {
         Ok(written) => println!(rt; "  {written}"),
         Err(FormError::Refused(fault)) => println!(rt; "  not written, {fault}"),
@@ -71,11 +73,10 @@ fn print_side(rt: &HostRuntime, schema: Schema, side: Side, store: &Buckets) -> 
 }
 
 pub fn print_plug(rt: &HostRuntime, name: &str, plug: &Plug) -> io::Result<()> {
-    let kind = plug.positive.kind();
-    let schema = plug.schema.value();
+    let settings = plug.settings();
     let readings = plug.readings;
     let zeros = plug.zeros;
-    println!(rt; "{name}, a {kind} at schema {schema}: readings {readings}, zeros {zeros}")?;
+    println!(rt; "{name}, {settings}: readings {readings}, zeros {zeros}")?;
     match plug.load() {
         Some(bound) => println!(rt; "  adds {bound} A to the load")?,
         None => println!(rt; "  adds nothing to the load")?,

@@ -1,4 +1,4 @@
-use Rattle.std.proofs.Common.{◌≡◌, ◌-◌, ap, ◌∙◌, rules}
+use Rattle.std.proofs.Common.{◌-◌, ap, ◌∙◌, rules}
 use Rattle.store.specs.Pairs.{pair_at}
 use Rattle.hub.proofs.Tops.{last_pair}
 use Rattle.hub.proofs.filing.highest.Goals as goal
