@@ -14,7 +14,7 @@ first_listed p ps = true_T _ (listed_at (p ∷ ps) 0 p (omega arith))
 lone_highest : (p : ℤ × ℕ) → Highest p.0 (p ∷ [])
 lone_highest p = record {
   occupied = first_listed p [];
-  above = λ j t. ⊎_elim (λ e. omega (arith, ints, same_true j p.0 e)) (λ e. absurd (false≢true e)) (or_cases _ _ (T_true _ t));
+  above = λ j t. ⊎_elim (λ e. omega (arith, ints, same_true j p.0 e)) (λ e. absurd (false≢true e)) (or_cases (same j p.0) _ (T_true _ t));
 }
 
 -- the highest of the later pairs is the highest of all

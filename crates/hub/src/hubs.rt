@@ -1,6 +1,5 @@
 // The plugs of a hub.
 use crate::filing::Filed;
-use crate::log::usual_schema;
 use crate::plugs::{Plug, Settings};
 use schema::Schema;
 use std::alloc::{AllocError, Global};
@@ -41,7 +40,9 @@ impl Hub {
     pub fn schema_of(&self, name: &str) -> Schema {
         self.plugs
             .get(name)
-            .map_or_else(usual_schema, |plug| plug.schema)
+            .map(Plug::settings)
+            .unwrap_or_default()
+            .schema
     }
 
     // Files a reading under the plug of the name, if there is one.

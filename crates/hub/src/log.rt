@@ -1,19 +1,10 @@
 // Lines of the log.
-ghost use Rattle.std.specs.Prelude.{◌≡◌, ◌<◌, length, pos, IfSome};
-
 use crate::chosen::StoreKind;
 use crate::plugs::Settings;
 use crate::written::Written;
 use schema::{Schema, SchemaFault};
 use std::alloc::{AllocError, Global};
 use thiserror::Error;
-
-// The schema of a plug that names none: eight buckets in each octave.
-pub fn usual_schema() -> Schema
-    ensures { result.value ≡ pos 3 }
-{
-    Schema::new(3).unwrap()
-}
 
 // What a line of the log says.
 #[derive(Drop)]
@@ -86,26 +77,25 @@ fn parse_plug<'a>(words: &[&'a str]) -> Result<Entry<'a>, LineFault<'a>> {
     let [name, options @ ..] = words else {
         return Err(LineFault::NoName("plug"));
     };
+    let usual = Settings::default();
     let (kind, options) = match options {
         ["row", rest @ ..] => (StoreKind::Row, rest),
         ["run", rest @ ..] => (StoreKind::Run, rest),
-        _ => (StoreKind::Row, options),
+        _ => (usual.kind, options),
     };
-    let schema = parse_schema(name, options)?;
+    let schema = match options {
+        [] => usual.schema,
+        ["schema", word] => parse_schema(name, word)?,
+        [word, ..] => return Err(LineFault::NoOption(word)),
+    };
     let settings = Settings { kind, schema };
     Ok(Entry::Declared { name, settings })
 }
 
-// The schema that the options of the plug name, or the usual one.
-fn parse_schema<'a>(name: &'a str, options: &[&'a str]) -> Result<Schema, LineFault<'a>> {
-    match options {
-        [] => Ok(usual_schema()),
-        ["schema", word] => {
-            let number = word.parse().map_err(|_| LineFault::NoSchema(word))?;
-            Schema::new(number).map_err(|fault| LineFault::Refused(name, fault))
-        }
-        [word, ..] => Err(LineFault::NoOption(word)),
-    }
+// The schema of the plug, by its number.
+fn parse_schema<'a>(name: &'a str, word: &'a str) -> Result<Schema, LineFault<'a>> {
+    let number = word.parse().map_err(|_| LineFault::NoSchema(word))?;
+    Schema::new(number).map_err(|fault| LineFault::Refused(name, fault))
 }
 
 // Spans and deltas, by what follows the word `spans`.

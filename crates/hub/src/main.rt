@@ -12,10 +12,9 @@ mod plugs;
 mod report;
 mod written;
 
-use chosen::StoreKind;
 use filing::Side;
 use hubs::Hub;
-use log::{Entry, LineFault, parse_line, usual_schema};
+use log::{Entry, LineFault, parse_line};
 use plugs::Settings;
 use report::{print_chart, print_plug};
 use std::io::{BufRead, BufReader};
@@ -37,11 +36,7 @@ fn declare(rt: &HostRuntime, hub: &mut Hub, name: &str, settings: Settings) -> i
 
 fn file(rt: &HostRuntime, hub: &mut Hub, name: &str, value: f64) -> io::Result<()> {
     if !hub.knows(name) {
-        let usual = Settings {
-            kind: StoreKind::Row,
-            schema: usual_schema(),
-        };
-        declare(rt, hub, name, usual)?;
+        declare(rt, hub, name, Settings::default())?;
     }
     match hub.file(name, value) {
         Some(Ok(filed)) => println!(rt; "{name}: {value} A, {filed}"),

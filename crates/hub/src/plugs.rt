@@ -14,6 +14,21 @@ pub struct Settings {
     pub schema: Schema,
 }
 
+// Of a plug that names none: a row, and eight buckets in each octave.
+impl Default for Settings {
+    ghost use Rattle.std.specs.Prelude.{pos};
+    ghost use Rattle.hub.specs.declared.chosen.StoreKind.TheVariants.{Row};
+
+    ghost is_default = { λ s. (s.kind ≡ Row) × (s.schema.value ≡ pos 3) };
+
+    fn default() -> Settings {
+        Settings {
+            kind: StoreKind::Row,
+            schema: Schema::new(3).unwrap(),
+        }
+    }
+}
+
 impl fmt::Display for Settings {
     fn fmt<W: fmt::Write>(&self, f: &mut fmt::Formatter<W>) -> fmt::Result {
         let kind = self.kind;
