@@ -1,2 +1,2 @@
 pub mod Tops
-pub mod Bars
+pub mod Totals

@@ -1,47 +1,42 @@
 -- The highest listed index is that of the last pair.
-use Rattle.std.proofs.Common.{◌≡◌, ℕ, ◌-◌, Bool, true, false, ◌||◌, T, [], ◌∷◌, length, get_or, ℤ, pos, ◌≤ℤ◌, is_some, Some, None, Option, unwrap_or, sym, refl, ap, ◌∙◌, subst, arith}
-use borrow.Author.Tests.{clash}
+use Rattle.std.proofs.Common.{◌≡◌, ℕ, ◌-◌, T, [], ◌∷◌, length, ℤ, Some, None, Option, MatchOption, refl, ap, ◌∙◌, subst, ⊎_elim, arith}
+use Rattle.std.proofs.lemmas.Bool.{or_cases, or_right, false≢true}
 use Rattle.std.proofs.lemmas.Int.{ints}
 use Rattle.store.specs.Pairs.{Pairs, rising, listed, same, pair_at}
 use Rattle.store.proofs.Bounds.{rising_tail, rising_above}
-use Rattle.store.proofs.Order.{true_T, same_true}
-use Rattle.store.proofs.Parts.{pair_at_in, listed_at, above_at}
+use Rattle.store.proofs.Order.{T_true, true_T, same_true}
+use Rattle.store.proofs.Parts.{pair_at_in, listed_at}
 use Rattle.hub.specs.Filing.{Highest}
 
--- j is the first index, or a later one
-or_cases : (a b : Bool) (P : Type 0) → (a ≡ true → P) → (T b → P) → T (a || b) → P
-or_cases true b P f g t = f refl
-or_cases false b P f g t = g t
+first_listed : (p : ℤ × ℕ) (ps : Pairs) → T (listed p.0 (p ∷ ps))
+first_listed p ps = true_T _ (listed_at (p ∷ ps) 0 p (omega arith))
 
--- no listed index is above the last
-last_above : (p : ℤ × ℕ) (ps : Pairs) (j : ℤ) → T (rising (p ∷ ps)) → T (listed j (p ∷ ps)) → j ≤ℤ (get_or (p ∷ ps) (length ps) (pos 0, 0)).0
-last_above p [] j r t =
-    or_cases (same j p.0) false (j ≤ℤ p.0) (λ e. omega (arith, ints, same_true j p.0 e)) (λ b. absurd b) t
-last_above p (q ∷ qs) j r t =
-    or_cases (same j p.0) (listed j (q ∷ qs)) (j ≤ℤ (get_or (q ∷ qs) (length qs) (pos 0, 0)).0)
-    (λ e. omega (arith, ints, same_true j p.0 e, above_at p.0 (q ∷ qs) (length qs) (pos 0, 0) (rising_above p (q ∷ qs) r) (omega arith)))
-    (λ b. last_above q qs j (rising_tail p (q ∷ qs) r) b) t
+lone_highest : (p : ℤ × ℕ) → Highest p.0 (p ∷ [])
+lone_highest p = record {
+  occupied = first_listed p [];
+  above = λ j t. ⊎_elim (λ e. omega (arith, ints, same_true j p.0 e)) (λ e. absurd (false≢true e)) (or_cases (same j p.0) _ (T_true _ t));
+}
 
--- the position of the last of n + 1 pairs
-last_place : (p : ℤ × ℕ) (ps : Pairs) → length (p ∷ ps) - 1 ≡ length ps
-last_place p ps = omega arith
+-- the highest of the later pairs is the highest of all
+later_highest : (i : ℤ) (p q : ℤ × ℕ) (qs : Pairs) → T (rising (p ∷ q ∷ qs)) → Highest i (q ∷ qs) → Highest i (p ∷ q ∷ qs)
+later_highest i p q qs r h = record {
+  occupied = true_T _ (or_right (same i p.0) _ (T_true _ h.occupied));
+  above = λ j t.
+      ⊎_elim
+      (λ e. omega (arith, ints, same_true j p.0 e, (rising_above p (q ∷ qs) r).0, h.above q.0 (first_listed q qs)))
+      (λ e. h.above j (true_T _ e))
+      (or_cases (same j p.0) _ (T_true _ t));
+}
 
-last_is : (p : ℤ × ℕ) (ps : Pairs) → pair_at (p ∷ ps) (length (p ∷ ps) - 1) ≡ Some (get_or (p ∷ ps) (length ps) (pos 0, 0))
-last_is p ps = ap (pair_at (p ∷ ps)) (last_place p ps) ∙ pair_at_in (p ∷ ps) (length ps) (pos 0, 0) (omega arith)
+last_highest : (p : ℤ × ℕ) (ps : Pairs) (x : ℤ × ℕ) → T (rising (p ∷ ps)) → Some x ≡ pair_at (p ∷ ps) (length ps) → Highest x.0 (p ∷ ps)
+last_highest p [] x r e = let same : p ≡ x = cc in subst (λ y. Highest y.0 (p ∷ [])) same (lone_highest p)
+last_highest p (q ∷ qs) x r e = later_highest x.0 p q qs r (last_highest q qs x (rising_tail p (q ∷ qs) r) e)
 
-pub last_highest : (ps : Pairs) (x : ℤ × ℕ) → T (rising ps) → Some x ≡ pair_at ps (length ps - 1) → Highest x.0 ps
-last_highest [] x r e = absurd (clash (sym (ap is_some e)))
-last_highest (p ∷ ps) x r e =
-    let same : (get_or (p ∷ ps) (length ps) (pos 0, 0)).0 ≡ x.0 = ap (λ (o : Option (ℤ × ℕ)). (unwrap_or o (pos 0, 0)).0) (sym (e ∙ last_is p ps)) in
-    subst (λ i. Highest i (p ∷ ps)) same (record {
-      occupied = true_T (listed (get_or (p ∷ ps) (length ps) (pos 0, 0)).0 (p ∷ ps)) (listed_at (p ∷ ps) (length ps) (pos 0, 0) (omega arith));
-      above = λ j t. last_above p ps j r t;
-    })
-
-pub last_missing : (ps : Pairs) → None ≡ pair_at ps (length ps - 1) → ps ≡ []
-last_missing [] e = refl
-last_missing (p ∷ ps) e = absurd (clash (ap is_some (e ∙ last_is p ps)))
-
-pub empty_length : (ps : Pairs) → length ps ≡ 0 → ps ≡ []
-empty_length [] e = refl
-empty_length (p ∷ ps) e = absurd (omega arith)
+pub last_pair : (ps : Pairs) (o : Option (ℤ × ℕ)) → T (rising ps) → o ≡ pair_at ps (length ps - 1) → MatchOption o (ps ≡ []) (λ x. Highest x.0 ps)
+last_pair [] None r e = refl
+last_pair [] (Some x) r e = absurd (cc)
+last_pair (p ∷ ps) None r e =
+    let there = pair_at_in (p ∷ ps) (length ps) p (omega arith) in
+    let place : pair_at (p ∷ ps) (length (p ∷ ps) - 1) ≡ pair_at (p ∷ ps) (length ps) = ap (pair_at (p ∷ ps)) (omega arith) in
+    absurd (cc)
+last_pair (p ∷ ps) (Some x) r e = last_highest p ps x r (e ∙ ap (pair_at (p ∷ ps)) (omega arith))

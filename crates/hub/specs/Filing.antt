@@ -12,7 +12,7 @@ use Rattle.store.specs.declared.faults.StoreFault.TheVariants.{Full}
 use Rattle.hub.specs.declared.chosen.StoreKind.{StoreKind}
 use Rattle.hub.specs.declared.chosen.Buckets.{Buckets}
 use Rattle.hub.specs.declared.filing.Filed.{Filed}
-use Rattle.hub.specs.declared.filing.Filed.TheVariants.{Bucket, Zero, NotANumber, Refused}
+use Rattle.hub.specs.declared.filing.Filed.TheVariants.{Bucket, Zero, NotANumber}
 use Rattle.hub.specs.declared.filing.Side.{Side}
 use Rattle.hub.specs.declared.filing.Side.TheVariants.{Positive, Negative}
 use Rattle.hub.specs.declared.plugs.Plug.{Plug}
@@ -95,11 +95,11 @@ TurnedAway p v f (Some i) = side_refusal p (side_of v) i ≡ Some (refusal f)
 TurnedAway p v f None = (f ≡ Full) × (p.zeros ≡ 2 ^ 64 - 1)
 
 -- what filing the reading v answers and leaves
-abbrev pub Files : Plug → Float → Filed → Plug → Type 0
-Files p v (Bucket side i b) q = InBucket p v side i b q
-Files p v Zero q = AsZero p v q
-Files p v NotANumber q = T (is_nan v) × Unchanged p q
-Files p v (Refused f) q = TurnedAway p v f (index_of p.schema.value v) × Unchanged p q
+abbrev pub Files : Plug → Float → Result Filed StoreFault → Plug → Type 0
+Files p v (Ok (Bucket side i b)) q = InBucket p v side i b q
+Files p v (Ok Zero) q = AsZero p v q
+Files p v (Ok NotANumber) q = T (is_nan v) × Unchanged p q
+Files p v (Err f) q = TurnedAway p v f (index_of p.schema.value v) × Unchanged p q
 
 -- i is the highest listed index
 pub record Highest (i : ℤ) (ps : Pairs) : Type 0 where

@@ -8,6 +8,8 @@ use Rattle.span.specs.Writing.{measure_refusal}
 use Rattle.span.specs.Reading.{read_pairs, open_refusal}
 use Rattle.span.specs.declared.faults.SpanFault.{SpanFault}
 use Rattle.span.specs.declared.faults.WriteFault.{WriteFault}
+use Rattle.hub.specs.declared.written.FormError.{FormError}
+use Rattle.hub.specs.declared.written.FormError.TheVariants.{Refused, NoMemory}
 use Rattle.hub.specs.declared.written.Written.{Written}
 
 -- w holds the spans and deltas of the pairs
@@ -16,15 +18,18 @@ pub record Holds (ps : Pairs) (w : Written) : Type 0 where
   pub of_spans : vec_items w.spans ≡ spans ps
   pub of_deltas : vec_items w.deltas ≡ deltas ps
 
-abbrev pub WritesOut : Pairs → Result Written WriteFault → Type 0
+-- of a failure for want of memory nothing is said
+abbrev pub WritesOut : Pairs → Result Written (FormError WriteFault) → Type 0
 WritesOut ps (Ok w) = Holds ps w
-WritesOut ps (Err f) = measure_refusal ps ≡ Some (write_fault f)
+WritesOut ps (Err (Refused f)) = measure_refusal ps ≡ Some (write_fault f)
+WritesOut ps (Err (NoMemory e)) = Unit {0}
 
 -- v holds the pairs that the spans and deltas of w list
 pub record GivesBack (w : Written) (v : Vec (ℤ × ℕ) Global) : Type 0 where
   pub allowed : open_refusal (vec_items w.spans) (vec_items w.deltas) ≡ None
   pub of_pairs : vec_items v ≡ read_pairs (vec_items w.spans) (vec_items w.deltas)
 
-abbrev pub ReadsBack : Written → Result (Vec (ℤ × ℕ) Global) SpanFault → Type 0
+abbrev pub ReadsBack : Written → Result (Vec (ℤ × ℕ) Global) (FormError SpanFault) → Type 0
 ReadsBack w (Ok v) = GivesBack w v
-ReadsBack w (Err f) = open_refusal (vec_items w.spans) (vec_items w.deltas) ≡ Some (span_fault f)
+ReadsBack w (Err (Refused f)) = open_refusal (vec_items w.spans) (vec_items w.deltas) ≡ Some (span_fault f)
+ReadsBack w (Err (NoMemory e)) = Unit {0}

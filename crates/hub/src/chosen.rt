@@ -1,5 +1,4 @@
-// The store that a plug was told to keep: a row or a run. A pattern cannot lend a store that stands in
-// an enum, so what changes one works on a copy of it.
+// The store that a plug was told to keep: a row or a run.
 ghost use Rattle.std.specs.Prelude.{◌≡◌, []};
 ghost use Rattle.hub.specs.Chosen.{pairs_in, room_in, kind_of};
 ghost use Rattle.hub.specs.Stores.{means_in, ranged_in, roomy_in};
@@ -86,48 +85,30 @@ impl BucketStore for Buckets {
     }
 
     fn add(&mut self, index: i32) -> Result<(), StoreFault> {
-        match *self {
-            Buckets::InRow(mut row) => {
-                row.add(index)?;
-                *self = Buckets::InRow(row);
-            }
-            Buckets::InRun(mut run) => {
-                run.add(index)?;
-                *self = Buckets::InRun(run);
-            }
+        match self {
+            Buckets::InRow(row) => row.add(index),
+            Buckets::InRun(run) => run.add(index),
         }
-        Ok(())
     }
 
     fn take_lowest(&mut self) -> Option<(i32, u64)> {
-        match *self {
-            Buckets::InRow(mut row) => {
-                let lowest = row.take_lowest();
-                *self = Buckets::InRow(row);
-                lowest
-            }
-            Buckets::InRun(mut run) => {
-                let lowest = run.take_lowest();
-                *self = Buckets::InRun(run);
-                lowest
-            }
+        match self {
+            Buckets::InRow(row) => row.take_lowest(),
+            Buckets::InRun(run) => run.take_lowest(),
         }
     }
 
     fn halve(&mut self) {
-        match *self {
-            Buckets::InRow(mut row) => {
-                row.halve();
-                *self = Buckets::InRow(row);
-            }
-            Buckets::InRun(mut run) => {
-                run.halve();
-                *self = Buckets::InRun(run);
-            }
+        match self {
+            Buckets::InRow(row) => row.halve(),
+            Buckets::InRun(run) => run.halve(),
         }
     }
 
     fn clear(&mut self) {
-        *self = Buckets::new(self.kind());
+        match self {
+            Buckets::InRow(row) => row.clear(),
+            Buckets::InRun(run) => run.clear(),
+        }
     }
 }

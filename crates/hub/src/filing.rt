@@ -1,11 +1,11 @@
 // Filing readings under a plug.
 ghost use Rattle.std.specs.Prelude.{◌≡◌, [], MatchOption};
-ghost use Rattle.hub.specs.Chosen.{pairs_in};
+ghost use Rattle.hub.specs.Chosen.{pairs_in, kind_of};
 ghost use Rattle.hub.specs.Filing.{side_of, Empty, Files, Adds, Zeroed, Highest, Load};
 
-use crate::chosen::{Buckets, StoreKind};
-use crate::plugs::Plug;
-use schema::{Schema, bucket_index, positive_upper_bound};
+use crate::chosen::Buckets;
+use crate::plugs::{Plug, Settings};
+use schema::{bucket_index, positive_upper_bound};
 use std::fmt;
 use store::{BucketStore, StoreFault};
 
@@ -14,6 +14,19 @@ use store::{BucketStore, StoreFault};
 pub enum Side {
     Positive,
     Negative,
+}
+
+impl Side {
+    // The side of a number other than zero.
+    fn of(value: f64) -> Side
+        ensures { result ≡ side_of value }
+    {
+        if value < 0.0 {
+            Side::Negative
+        } else {
+            Side::Positive
+        }
+    }
 }
 
 impl fmt::Display for Side {
@@ -32,7 +45,6 @@ pub enum Filed {
     Bucket(Side, i32, f64),
     Zero,
     NotANumber,
-    Refused(StoreFault),
 }
 
 impl fmt::Display for Filed {
@@ -48,19 +60,7 @@ impl fmt::Display for Filed {
             ),
             Filed::Zero => write!(f, "counted as zero"),
             Filed::NotANumber => write!(f, "not a number, not filed"),
-            Filed::Refused(fault) => write!(f, "not filed, {fault}"),
         }
-    }
-}
-
-// The side of a number other than zero.
-fn side_of(value: f64) -> Side
-    ensures { result ≡ side_of value }
-{
-    if value < 0.0 {
-        Side::Negative
-    } else {
-        Side::Positive
     }
 }
 
@@ -68,51 +68,48 @@ fn side_of(value: f64) -> Side
 fn highest<S: BucketStore>(store: &S) -> Option<i32>
     ensures { MatchOption result (S.BucketStore.pairs store.now ≡ []) (λ i. Highest i (S.BucketStore.pairs store.now)) }
 {
-    let size = store.size();
-    if size == 0 {
-        return None;
-    }
-    match store.pair(size - 1) {
-        Some((index, _)) => Some(index),
-        None => None,
-    }
+    let last = store.size().checked_sub(1)?;
+    store.pair(last).map(|(index, _)| index)
 }
 
 impl Plug {
     // A plug with no readings.
-    pub fn new(kind: StoreKind, schema: Schema) -> Plug
-        ensures { Empty kind schema result }
+    pub fn new(settings: Settings) -> Plug
+        ensures { Empty settings.kind settings.schema result }
     {
         Plug {
-            schema,
-            positive: Buckets::new(kind),
-            negative: Buckets::new(kind),
+            schema: settings.schema,
+            positive: Buckets::new(settings.kind),
+            negative: Buckets::new(settings.kind),
             zeros: 0,
             readings: 0,
         }
     }
 
+    pub fn settings(&self) -> Settings
+        ensures kind { result.kind ≡ kind_of self.now.positive }
+        ensures schema { result.schema ≡ self.now.schema }
+    {
+        Settings {
+            kind: self.positive.kind(),
+            schema: self.schema,
+        }
+    }
+
     // Files a reading: under its bucket on its side, or as a zero.
-    pub fn file(&mut self, value: f64) -> Filed
+    pub fn file(&mut self, value: f64) -> Result<Filed, StoreFault>
         ensures { Files self.old value result self.new }
     {
         if value.is_nan() {
-            return Filed::NotANumber;
+            return Ok(Filed::NotANumber);
         }
-        let side = side_of(value);
-        let index = match bucket_index(self.schema, value) {
-            Some(index) => index,
-            None => {
-                return match self.add_zero() {
-                    Ok(()) => Filed::Zero,
-                    Err(fault) => Filed::Refused(fault),
-                };
-            }
+        let Some(index) = bucket_index(self.schema, value) else {
+            self.add_zero()?;
+            return Ok(Filed::Zero);
         };
-        match self.add(side, index) {
-            Ok(()) => Filed::Bucket(side, index, positive_upper_bound(self.schema, index)),
-            Err(fault) => Filed::Refused(fault),
-        }
+        let side = Side::of(value);
+        self.add(side, index)?;
+        Ok(Filed::Bucket(side, index, positive_upper_bound(self.schema, index)))
     }
 
     // What the hub adds to the running load before it switches the plug on: the bound of the highest
@@ -120,11 +117,11 @@ impl Plug {
     pub fn load(&self) -> Option<f64>
         ensures { MatchOption result (pairs_in self.now.positive ≡ []) (Load self.now) }
     {
-        let index = highest(&self.positive)?;
-        Some(positive_upper_bound(self.schema, index))
+        highest(&self.positive).map(|index| positive_upper_bound(self.schema, index))
     }
 
     // Raises the index's count on a side.
+    #[tactic(auto, using(crate::proofs::Totals::total_bound))]
     fn add(&mut self, side: Side, index: i32) -> Result<(), StoreFault>
         ensures { Adds self.old side index result self.new }
     {
@@ -140,10 +137,7 @@ impl Plug {
     fn add_zero(&mut self) -> Result<(), StoreFault>
         ensures { Zeroed self.old result self.new }
     {
-        if self.zeros == u64::MAX {
-            return Err(StoreFault::Full);
-        }
-        self.zeros += 1;
+        self.zeros = self.zeros.checked_add(1).ok_or(StoreFault::Full)?;
         self.readings += 1;
         Ok(())
     }

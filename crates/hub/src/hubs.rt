@@ -1,11 +1,10 @@
 // The plugs of a hub.
-use crate::chosen::StoreKind;
 use crate::filing::Filed;
-use crate::log::usual_schema;
-use crate::plugs::Plug;
+use crate::plugs::{Plug, Settings};
 use schema::Schema;
 use std::alloc::{AllocError, Global};
 use std::collections::BTreeMap;
+use store::StoreFault;
 
 #[derive(Drop)]
 pub struct Hub {
@@ -30,25 +29,24 @@ impl Hub {
         &mut self,
         heap: Global,
         name: &str,
-        kind: StoreKind,
-        schema: Schema,
+        settings: Settings,
     ) -> Result<(), AllocError> {
         let key = String::from_str(heap, name)?;
-        self.plugs.insert(key, Plug::new(kind, schema))?;
+        self.plugs.insert(key, Plug::new(settings))?;
         Ok(())
     }
 
     // The schema of the plug of the name, or the usual one.
     pub fn schema_of(&self, name: &str) -> Schema {
-        match self.plugs.get(name) {
-            Some(plug) => plug.schema,
-            None => usual_schema(),
-        }
+        self.plugs
+            .get(name)
+            .map(Plug::settings)
+            .unwrap_or_default()
+            .schema
     }
 
     // Files a reading under the plug of the name, if there is one.
-    pub fn file(&mut self, name: &str, value: f64) -> Option<Filed> {
-        let plug = self.plugs.get_mut(name)?;
-        Some(plug.file(value))
+    pub fn file(&mut self, name: &str, value: f64) -> Option<Result<Filed, StoreFault>> {
+        self.plugs.get_mut(name).map(|plug| plug.file(value))
     }
 }

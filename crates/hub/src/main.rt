@@ -12,15 +12,14 @@ mod plugs;
 mod report;
 mod written;
 
-use chosen::StoreKind;
 use filing::Side;
 use hubs::Hub;
-use log::{Cause, Entry, LineFault, parse_line, usual_schema};
+use log::{Entry, LineFault, parse_line};
+use plugs::Settings;
 use report::{print_chart, print_plug};
-use schema::Schema;
 use std::io::{BufRead, BufReader};
 use std::{env, io};
-use written::{Written, read_back};
+use written::{FormError, Written, read_back};
 
 const HELP: &str = "\
 hub reads a log of inrush currents from standard input and says what it did. A line of the log is one of these:
@@ -30,51 +29,45 @@ hub reads a log of inrush currents from standard input and says what it did. A l
   # TEXT                           a comment, which may end any line
 ";
 
-fn declare(
-    rt: &HostRuntime,
-    hub: &mut Hub,
-    name: &str,
-    kind: StoreKind,
-    schema: Schema,
-) -> io::Result<()> {
-    let number = schema.value();
-    hub.declare(rt.alloc(), name, kind, schema)?;
-    println!(rt; "{name}: a {kind} at schema {number}")
+fn declare(rt: &HostRuntime, hub: &mut Hub, name: &str, settings: Settings) -> io::Result<()> {
+    hub.declare(rt.alloc(), name, settings)?;
+    println!(rt; "{name}: {settings}")
 }
 
 fn file(rt: &HostRuntime, hub: &mut Hub, name: &str, value: f64) -> io::Result<()> {
     if !hub.knows(name) {
-        declare(rt, hub, name, StoreKind::Row, usual_schema())?;
+        declare(rt, hub, name, Settings::default())?;
     }
     match hub.file(name, value) {
-        Some(filed) => println!(rt; "{name}: {value} A, {filed}"),
+        Some(Ok(filed)) => println!(rt; "{name}: {value} A, {filed}"),
+        Some(Err(fault)) => println!(rt; "{name}: {value} A, not filed, {fault}"),
         None => Ok(()),
     }
 }
 
 fn read_spans(rt: &HostRuntime, hub: &Hub, name: &str, written: &Written) -> io::Result<()> {
-    match read_back(rt.alloc(), written)? {
+    match read_back(rt.alloc(), written) {
         Ok(pairs) => {
             let count = pairs.len();
             println!(rt; "{name}: spans and deltas of {count} buckets")?;
-            print_chart(rt, hub.schema_of(name), Side::Positive, pairs.as_slice())
+            print_chart(rt, hub.schema_of(name), Side::Positive, &pairs)
         }
-        Err(fault) => println!(rt; "{name}: spans and deltas are damaged, {fault}"),
+        Err(FormError::Refused(fault)) => {
+            println!(rt; "{name}: spans and deltas are damaged, {fault}")
+        }
+        Err(FormError::NoMemory(error)) => Err(error.into()),
     }
 }
 
 fn record(rt: &HostRuntime, hub: &mut Hub, number: u64, entry: Entry) -> io::Result<()> {
     match entry {
         Entry::Nothing => Ok(()),
-        Entry::Declared { name, kind, schema } => {
+        Entry::Declared { name, settings } => {
             if hub.knows(name) {
-                let fault = LineFault {
-                    cause: Cause::Again,
-                    word: name,
-                };
+                let fault = LineFault::Again(name);
                 return println!(rt; "line {number}: {fault}");
             }
-            declare(rt, hub, name, kind, schema)
+            declare(rt, hub, name, settings)
         }
         Entry::Reading { name, value } => file(rt, hub, name, value),
         Entry::Spans { name, written } => read_spans(rt, hub, name, &written),
@@ -94,31 +87,26 @@ fn read_line(rt: &HostRuntime, hub: &mut Hub, number: u64, bytes: &[u8]) -> io::
 fn read_log(rt: &HostRuntime) -> io::Result<()> {
     let heap = rt.alloc();
     let mut hub = Hub::new(heap);
-    let mut number = 0u64;
-    for line in BufReader::new(heap, rt.stdin())?.split(heap, b'\n') {
-        number = number.saturating_add(1);
-        read_line(rt, &mut hub, number, line?.as_slice())?;
+    let lines = BufReader::new(heap, rt.stdin())?.split(heap, b'\n');
+    for (number, line) in (1..=u64::MAX).zip(lines) {
+        read_line(rt, &mut hub, number, &line?)?;
     }
     print_hub(rt, &hub)
 }
 
 // Each plug, by name.
 fn print_hub(rt: &HostRuntime, hub: &Hub) -> io::Result<()> {
-    for (name, plug) in hub.plugs.iter() {
+    for (name, plug) in &hub.plugs {
         println!(rt; "")?;
-        print_plug(rt, name.as_str(), plug)?;
+        print_plug(rt, name, plug)?;
     }
     Ok(())
 }
 
 // With an argument, as --help, the program says what it reads: it takes no other.
-fn run_program(rt: &HostRuntime) -> io::Result<()> {
-    if env::args(rt)?.count() > 1 {
+fn main(rt: HostRuntime) -> io::Result<()> {
+    if env::args(&rt)?.count() > 1 {
         return print!(rt; "{HELP}");
     }
-    read_log(rt)
-}
-
-fn main(rt: HostRuntime) -> io::Result<()> {
-    run_program(&rt)
+    read_log(&rt)
 }

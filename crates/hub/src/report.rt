@@ -1,37 +1,36 @@
 // What is printed of a plug.
-ghost use Rattle.std.specs.Prelude.{◌≡◌, ℕ, ◌+◌, ◌-◌, ◌*◌, ◌/◌, ◌<◌, ◌≤◌, length, pos, if◌then◌else◌, nat_lt, slice_index_or};
+ghost use Rattle.std.specs.Int.{div_ceil};
+ghost use Rattle.std.specs.Prelude.{◌≡◌, ◌≢◌, ◌*◌, ◌≤◌, [], All, Contains, map, if◌then◌else◌, nat_lt};
 
 use crate::chosen::Buckets;
 use crate::filing::Side;
 use crate::plugs::Plug;
-use crate::written::{Written, pairs_of, write_out};
+use crate::written::{FormError, pairs_of, write_out};
 use schema::{Schema, positive_upper_bound};
 use std::io;
 
 // How wide the bar of the highest count is.
-const WIDEST: u64 = 40;
+const WIDEST: u8 = 40;
 
 // How wide the bar of a count is where the highest is `most`: its share of 40, rounded up.
 fn bar_width(count: u64, most: u64) -> usize
-    ensures width { result ≡ (if nat_lt count most then (count * 40 + (most - 1)) / most else 40) }
+    ensures width { result ≡ (if nat_lt count most then div_ceil (count * 40) most else 40) }
     ensures fits { result ≤ 40 }
 {
     if count >= most {
-        return WIDEST as usize;
+        return usize::from(WIDEST);
     }
-    let most = u128::from(most);
-    ((u128::from(count) * u128::from(WIDEST) + (most - 1)) / most) as usize
+    let share = u128::from(count) * u128::from(WIDEST);
+    share.div_ceil(u128::from(most)) as usize
 }
 
-// The highest count.
+// The highest count, 0 where there is none.
 fn highest_count(pairs: &[(i32, u64)]) -> u64
-    ensures { (k : ℕ) → k < length pairs.now → (slice_index_or pairs.now k (pos 0, 0)).1 ≤ result }
+    ensures highest { All (λ p. p.1 ≤ result) pairs.now }
+    ensures counted { pairs.now ≢ [] → Contains (map (λ p. p.1) pairs.now) result }
+    ensures none { pairs.now ≡ [] → result ≡ 0 }
 {
-    let mut most = 0;
-    for (_, count) in pairs {
-        most = most.max(*count);
-    }
-    most
+    pairs.iter().map(|pair| pair.1).max().unwrap_or(0)
 }
 
 // A line for each bucket: its index, its count with a bar, and its bound.
@@ -46,29 +45,16 @@ pub fn print_chart(
         Side::Positive => "up to ",
         Side::Negative => "down to -",
     };
-    for (index, count) in pairs {
-        let bound = positive_upper_bound(schema, *index);
-        let width = bar_width(*count, most);
-        let rest = WIDEST as usize - width;
+    for &(index, count) in pairs {
+        let bound = positive_upper_bound(schema, index);
+        let width = bar_width(count, most);
+        let rest = usize::from(WIDEST) - width;
         println!(rt;
             "  {index:>7} {count:>4} {:#<width$}{:<rest$} {reach}{bound} A",
             "", ""
         )?;
     }
     Ok(())
-}
-
-// Spans and deltas as the log has them.
-pub fn print_written(rt: &HostRuntime, written: &Written) -> io::Result<()> {
-    print!(rt; "  spans")?;
-    for (offset, length) in written.spans.iter() {
-        print!(rt; " {offset}:{length}")?;
-    }
-    print!(rt; " /")?;
-    for delta in written.deltas.iter() {
-        print!(rt; " {delta}")?;
-    }
-    println!(rt; "")
 }
 
 // The chart of a side that lists something, and its spans and deltas.
@@ -78,19 +64,19 @@ fn print_side(rt: &HostRuntime, schema: Schema, side: Side, store: &Buckets) -> 
         return Ok(());
     }
     println!(rt; "  {side}:")?;
-    print_chart(rt, schema, side, pairs.as_slice())?;
-    match write_out(rt.alloc(), store)? {
-        Ok(written) => print_written(rt, &written),
-        Err(fault) => println!(rt; "  not written, {fault}"),
+    print_chart(rt, schema, side, &pairs)?;
+    match write_out(rt.alloc(), store) {
+        Ok(written) => println!(rt; "  {written}"),
+        Err(FormError::Refused(fault)) => println!(rt; "  not written, {fault}"),
+        Err(FormError::NoMemory(error)) => Err(error.into()),
     }
 }
 
 pub fn print_plug(rt: &HostRuntime, name: &str, plug: &Plug) -> io::Result<()> {
-    let kind = plug.positive.kind();
-    let schema = plug.schema.value();
+    let settings = plug.settings();
     let readings = plug.readings;
     let zeros = plug.zeros;
-    println!(rt; "{name}, a {kind} at schema {schema}: readings {readings}, zeros {zeros}")?;
+    println!(rt; "{name}, {settings}: readings {readings}, zeros {zeros}")?;
     match plug.load() {
         Some(bound) => println!(rt; "  adds {bound} A to the load")?,
         None => println!(rt; "  adds nothing to the load")?,

@@ -1,9 +1,11 @@
 // Buckets as lists: the pairs of a store, its spans and deltas, and the pairs read back from such.
 ghost use Rattle.std.specs.Prelude.{◌≡◌, IfOk};
 ghost use Rattle.hub.specs.Forms.{WritesOut, ReadsBack};
+ghost use Rattle.hub.specs.declared.written.FormError.TheVariants.{NoMemory};
 
 use span::{NativeHistogramBuckets, SpanFault, WriteFault, measure, write};
 use std::alloc::{AllocError, Global};
+use std::fmt;
 use store::BucketStore;
 
 // Spans (offset, length) and deltas.
@@ -13,51 +15,64 @@ pub struct Written {
     pub deltas: Vec<i64>,
 }
 
+// As the log has them.
+impl fmt::Display for Written {
+    fn fmt<W: fmt::Write>(&self, f: &mut fmt::Formatter<W>) -> fmt::Result {
+        write!(f, "spans")?;
+        for (offset, length) in &self.spans {
+            write!(f, " {offset}:{length}")?;
+        }
+        write!(f, " /")?;
+        for delta in &self.deltas {
+            write!(f, " {delta}")?;
+        }
+        Ok(())
+    }
+}
+
+// Why buckets are not brought from one form into the other.
+#[derive(Clone, Copy)]
+pub enum FormError<F> {
+    Refused(F),
+    NoMemory(AllocError),
+}
+
+impl<F> From<AllocError> for FormError<F> {
+    ghost from_gives = { λ a e. e ≡ NoMemory a };
+
+    fn from(error: AllocError) -> FormError<F> {
+        FormError::NoMemory(error)
+    }
+}
+
 // The pairs of a store.
 pub fn pairs_of<S: BucketStore>(heap: Global, store: &S) -> Result<Vec<(i32, u64)>, AllocError>
     ensures { IfOk result (λ v. v.items ≡ S.BucketStore.pairs store.now) }
 {
-    let mut pairs = Vec::new(heap);
-    for position in 0..store.size() {
-        if let Some(pair) = store.pair(position) {
-            pairs.push(pair)?;
-        }
-    }
-    Ok(pairs)
+    (0..store.size())
+        .filter_map(|position| store.pair(position))
+        .collect(heap)
 }
 
 // The spans and deltas of a store, or why it has none.
-pub fn write_out<S: BucketStore>(
-    heap: Global,
-    store: &S,
-) -> Result<Result<Written, WriteFault>, AllocError>
-    ensures { IfOk result (WritesOut (S.BucketStore.pairs store.now)) }
+pub fn write_out<S: BucketStore>(heap: Global, store: &S) -> Result<Written, FormError<WriteFault>>
+    ensures { WritesOut (S.BucketStore.pairs store.now) result }
 {
-    let lengths = match measure(store) {
-        Ok(lengths) => lengths,
-        Err(fault) => return Ok(Err(fault)),
-    };
+    let lengths = measure(store).map_err(FormError::Refused)?;
     let mut spans = vec![in heap; (0, 0); lengths.spans]?;
     let mut deltas = vec![in heap; 0; lengths.deltas]?;
-    match write(store, spans.as_mut_slice(), deltas.as_mut_slice()) {
-        Ok(_) => Ok(Ok(Written { spans, deltas })),
-        Err(fault) => Ok(Err(fault)),
-    }
+    write(store, &mut spans, &mut deltas).map_err(FormError::Refused)?;
+    Ok(Written { spans, deltas })
 }
 
 // The pairs that spans and deltas were written from, or what is wrong with them.
-pub fn read_back(
-    heap: Global,
-    written: &Written,
-) -> Result<Result<Vec<(i32, u64)>, SpanFault>, AllocError>
-    ensures { IfOk result (ReadsBack written.now) }
+pub fn read_back(heap: Global, written: &Written) -> Result<Vec<(i32, u64)>, FormError<SpanFault>>
+    ensures { ReadsBack written.now result }
 {
     let buckets = NativeHistogramBuckets {
-        spans: written.spans.as_slice(),
-        deltas: written.deltas.as_slice(),
+        spans: &written.spans,
+        deltas: &written.deltas,
     };
-    match buckets.read() {
-        Ok(reader) => Ok(Ok(reader.collect(heap)?)),
-        Err(fault) => Ok(Err(fault)),
-    }
+    let reader = buckets.read().map_err(FormError::Refused)?;
+    Ok(reader.collect(heap)?)
 }

@@ -1,7 +1,8 @@
-use Rattle.std.proofs.Common.{◌≡◌, ℕ, List, [], ◌∷◌, ℤ, None, vec_items, Vec, sym, ap, ◌∙◌}
-use Rattle.std.specs.Iterator.{Yields}
+use Rattle.std.proofs.Common.{◌≡◌, length, ℤ, ℕ, List, IfOk, Result, vec_items, Vec, sym, ap, ◌∙◌, rules}
 use Rattle.std.specs.declared.alloc.Global.{Global}
-use Rattle.store.specs.Pairs.{Pairs}
+use Rattle.std.specs.declared.alloc.AllocError.{AllocError}
+use Rattle.std.proofs.lemmas.Iterator.{IsCollectResult, YieldsList, items_from_collect}
+use Rattle.std.proofs.lemmas.Iterator.Consumers.{YieldsList-from_shown}
 use Rattle.span.specs.declared.reader.BucketReader.{BucketReader}
 use Rattle.span.specs.Spans.{Spans}
 use Rattle.span.specs.Reading.{read_pairs, open_refusal}
@@ -10,10 +11,12 @@ use Rattle.hub.specs.declared.written.Written.{Written}
 use Rattle.hub.specs.Forms.{GivesBack}
 use Rattle.hub.proofs.written.read_back.Goals as goal
 
--- calls from s up to the end gave the pairs of s
-all_read : (xs : Pairs) (s t u : BucketReader) → Yields (Gives reader_pairs) s xs t → Gives reader_pairs t None u → xs ≡ reader_pairs s
-all_read [] s t u y g = sym g.0 ∙ ap reader_pairs (sym y)
-all_read (x ∷ xs) s t u y g = ap (λ (qs : Pairs). x ∷ qs) (all_read xs y.0 t u y.2 g) ∙ sym y.1
+-- a reader yields its pairs
+yields_pairs : (r : BucketReader) → YieldsList (Gives reader_pairs) (λ x. x) r (reader_pairs r)
+yields_pairs = YieldsList-from_shown (Gives reader_pairs) (λ x. x) reader_pairs (λ s t g. ap length g.0) (λ s x t g. g)
+
+collected : (o : Result (Vec (ℤ × ℕ) Global) AllocError) (r : BucketReader) → IsCollectResult (Gives reader_pairs) r o → IfOk o (λ v. vec_items v ≡ reader_pairs r)
+collected o r h = items_from_collect o h (yields_pairs r)
 
 gives_back : (w : Written) (ss : Spans) (ds : List ℤ) (v : Vec (ℤ × ℕ) Global) (r : BucketReader) → ss ≡ vec_items w.spans → ds ≡ vec_items w.deltas → Opens ss ds r → vec_items v ≡ reader_pairs r → GivesBack w v
 gives_back w ss ds v r es ed o e = record {
@@ -21,10 +24,10 @@ gives_back w ss ds v r es ed o e = record {
   of_pairs = e ∙ o.yields ∙ ap (λ s. read_pairs s ds) es ∙ ap (read_pairs (vec_items w.spans)) ed;
 }
 
-pub returns-in_ok-collect-in-Ok : goal.returns-in_ok-collect-in-Ok
-returns-in_ok-collect-in-Ok c =
-    let ran = c.in_ok-collect-in-Ok.ensures.ran in
-    let end = ran.1.2 tt in
-    gives_back c.args.written.now _ _ c.in_ok-collect-in-Ok.field-0 c.in-Ok.reader
-    c.as_slice.ensures.value c.as_slice-2.ensures.value c.in-Ok.ensures
-    (ran.2.0 ∙ all_read ran.0 c.in-Ok.reader ran.1.0 end.0 ran.1.1 end.1)
+pub returns : goal.returns
+returns c =
+    let o : Opens c.deref.result.now c.deref-2.result.now c.in_ok-reader.reader = search rules in
+    let ran = c.collect.ensures.ran in
+    let all : IfOk c.collect.result (λ v. vec_items v ≡ reader_pairs c.in_ok-reader.reader) = search (rules, collected) in
+    let e : vec_items c.in_ok-collect.field-0 ≡ reader_pairs c.in_ok-reader.reader = search rules in
+    gives_back c.args.written.now _ _ c.in_ok-collect.field-0 c.in_ok-reader.reader c.deref.ensures.value c.deref-2.ensures.value o e
