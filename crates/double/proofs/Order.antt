@@ -1,7 +1,8 @@
 -- The order of two magnitudes is the order of their units.
 -- Numbers as 2^1074 stay behind a format's name, since a numeral of so many digits is too long for the arithmetic tactics.
-use Rattle.std.proofs.Common.{◌≡◌, ℕ, zero, suc, ◌+◌, ◌*◌, ◌/◌, ◌%◌, ◌^◌, ◌<◌, ◌≤◌, Bool, true, false, ◌&&◌, ◌||◌, T, eqb, ltb, leb, ℤ, sym, refl, ap, ◌∙◌, ap₂, le_trans, le_of_eq, lt_of_lt_of_le, lt_of_le_of_lt, le_of_lt, lt_irrefl, mul-le-mul_right, mul_assoc, mul_comm, lt_of_mul-lt-mul_right, mul-lt-mul_of_pos_right, mul-pos, one-mul, zero-mul, mul_right_comm, arith, eqb→eq, ltb→lt, leb→le, pow_pos, pow-add, le-ltb, lt-ltb, eq-eqb, ne_eqb}
+use Rattle.std.proofs.Common.{◌≡◌, ℕ, zero, suc, ◌+◌, ◌*◌, ◌/◌, ◌%◌, ◌^◌, ◌<◌, ◌≤◌, Bool, ◌&&◌, ◌||◌, T, eqb, ltb, leb, ℤ, sym, refl, ap, ◌∙◌, ap₂, le_trans, le_of_eq, lt_of_lt_of_le, lt_of_le_of_lt, le_of_lt, lt_irrefl, mul-le-mul_right, mul_assoc, mul_comm, lt_of_mul-lt-mul_right, mul-lt-mul_of_pos_right, mul-pos, one-mul, zero-mul, mul_right_comm, arith, eqb→eq, ltb→lt, leb→le, pow_pos, pow-add, le-ltb, lt-ltb, eq-eqb, ne_eqb}
 use lib.Ieee.{Float, nan, inf, fin, Format, binary64, prec, emax, low, up, down, fits, lt, le, eq, is_nan}
+use Rattle.std.proofs.Math.Bool.{and-true}
 use lib.Ieee.Fits.{and_l, and_r, up_pos, down_pos}
 use Rattle.double.specs.Double.{Number, units, magnitude}
 use Rattle.double.proofs.Scale.{lift, lift_exact, lift_units, ltb_scaled, eqb_scaled, ltb_or_eqb}
@@ -67,10 +68,6 @@ cross_ltb X Y a b L E D hL hE hD p q = sym (ltb_scaled (X * D) (Y * E) L hL) ∙
 cross_eqb : (X Y a b L E D : ℕ) → 0 < L → 0 < E → 0 < D → X * L ≡ a * E → Y * L ≡ b * D → eqb (X * D) (Y * E) ≡ eqb a b
 cross_eqb X Y a b L E D hL hE hD p q = sym (eqb_scaled (X * D) (Y * E) L hL) ∙ ap₂ eqb (crossed X Y a b L E D p) (crossed' X Y a b L E D q) ∙ eqb_scaled a b (E * D) (mul-pos hE hD)
 
-and_true : (a : Bool) → (a && true) ≡ a
-and_true true = refl
-and_true false = refl
-
 -- ---- the order
 
 infinite : (s : Bool) → units (inf s) ≡ 2 ^ 2098 + 1
@@ -104,7 +101,7 @@ eq_units (inf s) (fin t n d) hx hy = sym (ne_eqb (units (inf s)) (units (fin t n
 eq_units (fin s m e) nan hx hy = absurd hy.1
 eq_units (fin s m e) (inf t) hx hy = sym (ne_eqb (units (fin s m e)) (units (inf t)) (λ q. lt_irrefl (units (inf t)) (lt_of_le_of_lt (le_of_eq (sym q)) (under_infinite s t m e hx.0))))
 eq_units (fin s m e) (fin t n d) hx hy =
-    and_true (eqb (m * up e * down d) (n * up d * down e))
+    and-true (eqb (m * up e * down d) (n * up d * down e))
     ∙ cross_eqb (m * up e) (n * up d) (units (fin s m e)) (units (fin t n d)) (2 ^ 1074) (down e) (down d) (pow_pos 1074) (down_pos e) (down_pos d)
     (sym (units_exact s m e hx.0)) (sym (units_exact t n d hy.0))
 

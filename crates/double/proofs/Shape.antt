@@ -1,5 +1,5 @@
 -- The bits of a finite double that is not zero: q × 2^k units are written as k × 2^52 + q.
-use Rattle.std.proofs.Common.{◌≡◌, ℕ, zero, suc, ◌+◌, ◌-◌, ◌*◌, ◌/◌, ◌%◌, ◌^◌, ◌<◌, ◌≤◌, Bool, true, false, T, ◌⊎◌, ℤ, sym, refl, ap, ◌∙◌, subst, ap₂, inl, inr, ⊎_elim, le_trans, le_of_eq, lt_of_lt_of_le, lt_of_le_of_lt, lt_irrefl, zero-lt-suc, zero-add, eq-zero-or-pos, le_antisymm, mul-pos, le-div_iff_mul-le, zero-mul, arith, pow_pos, pow-add}
+use Rattle.std.proofs.Common.{◌≡◌, ℕ, zero, suc, ◌+◌, ◌-◌, ◌*◌, ◌/◌, ◌%◌, ◌^◌, ◌<◌, ◌≤◌, Bool, false, T, ◌⊎◌, ℤ, sym, refl, ap, ◌∙◌, ap₂, inl, inr, ⊎_elim, le_trans, le_of_eq, lt_of_lt_of_le, lt_of_le_of_lt, lt_irrefl, zero-lt-suc, zero-add, eq-zero-or-pos, le_antisymm, mul-pos, le-div_iff_mul-le, zero-mul, arith, pow_pos, pow-add}
 use lib.Ieee.{Float, nan, inf, fin, binary64, size, fits, to_bits}
 use lib.Ieee.Digits.{size-le, size_reaches}
 use lib.Ieee.Fits.{kept-lt}
@@ -7,9 +7,6 @@ use Rattle.double.specs.Double.{units, magnitude, finite_nonzero}
 use Rattle.double.proofs.Scale.{lift}
 use Rattle.double.proofs.Order.{fits_digits, fits_low, units_under, units_lift}
 use Rattle.double.proofs.Digits.{kept_le, kept_largest}
-
-pub passes : (b : Bool) → b ≡ true → T b
-passes b e = subst T (sym e) tt
 
 factor : (a b : ℕ) → 0 < a * b → 0 < a
 factor zero b h = absurd (lt_irrefl 0 (lt_of_lt_of_le h (le_of_eq (zero-mul b))))

@@ -46,10 +46,7 @@ cut_table a i = refl
 
 pub cut_powers : (n : ℕ) (i : ℤ) → 1 ≤ n → cut (neg_ℤ (pos n)) i ≡ scaled (2 ^ 52) (i *ℤ pos (2 ^ n) +ℤ pos 1 +ℤ pos 1021)
 unfolding cut
-cut_powers zero i h = absurd (never h)
-  where
-    never : 1 ≤ 0 → ⊥
-    never h = omega arith
+cut_powers zero i h = absurd (omega arith)
 cut_powers (suc b) i h = sym (ap (scaled (2 ^ 52)) (turned (i *ℤ pos (2 ^ suc b))) ∙ scaled_shift (2 ^ 52) (i *ℤ pos (2 ^ suc b) +ℤ pos 1021) 1)
   where
     turned : (z : ℤ) → z +ℤ pos 1 +ℤ pos 1021 ≡ z +ℤ pos 1021 +ℤ pos 1
@@ -59,10 +56,7 @@ pub few_octaves : (n : ℕ) → n ≤ 4 → 2 ^ n ≤ 16
 few_octaves n h = pow_mono {j = 4} h
 
 pub finite_wide : (n : ℕ) (v : Float) → 1 ≤ n → finite_index (neg_ℤ (pos n)) v ≡ quotient (2 ^ n) (table_index 0 v +ℤ pos (2 ^ n - 1))
-finite_wide zero v h = absurd (never h)
-  where
-    never : 1 ≤ 0 → ⊥
-    never h = omega arith
+finite_wide zero v h = absurd (omega arith)
 finite_wide (suc b) v h = refl
 
 -- ---- the ends of the finite doubles

@@ -14,7 +14,7 @@ pub(crate) enum Layout {
 }
 
 impl Schema {
-    // Where the bounds are.
+    // How this schema places its bounds.
     pub(crate) fn layout(self) -> Layout
         ensures { schema_of result ≡ self.value }
     {

@@ -3,7 +3,7 @@ use borrow.Author.Differences.{ints}
 use lib.Ieee.{Float, nan, inf, fin, binary64, fits, of_bits}
 use Rattle.std.proofs.lemmas.Int.{to_z-of_z}
 use Rattle.double.specs.Double.{fraction, exponent, finite_nonzero, zero_double, Splits}
-use Rattle.double.proofs.Shape.{passes}
+use Rattle.std.proofs.lemmas.Float.{T_from_true}
 use Rattle.double.proofs.Fraction.{nonzero_tested, infinite_tested, zero_tested, splits, Written, written}
 use Rattle.double.proofs.frexp.Goals as goal
 use Rattle.double.proofs.frexp.Goals.{then-not-is_finite-via-then-not-is_finite, then-not-is_finite-via-else-not-is_finite+then-v}
@@ -43,8 +43,8 @@ returns c =
     let v = c.args.v in
     let m = c.of-parts.result in
     let h : T (finite_nonzero v) = nonzero_tested v (sym c.if-not-is_finite.ensures.value) c.if-v.false in
-    let p : Written v m.mantissa m.shift = written v m.mantissa m.shift (passes _ c.well_formed.0.1) h m.nonzero m.digits c.of-parts.ensures in
+    let p : Written v m.mantissa m.shift = written v m.mantissa m.shift (T_from_true _ c.well_formed.0.1) h m.nonzero m.digits c.of-parts.ensures in
     let f : SFits w32 c.exponent.result = search rules in
     let e = to_z-of_z w32 c.exponent.result f in
     let r = c.exponent.ensures.range in
-    some v c.fraction.result _ (passes _ c.well_formed.0.1) h (c.fraction.ensures ∙ p.bits) (e ∙ c.exponent.ensures.value ∙ sym p.power) (omega (arith, ints), omega (arith, ints))
+    some v c.fraction.result _ (T_from_true _ c.well_formed.0.1) h (c.fraction.ensures ∙ p.bits) (e ∙ c.exponent.ensures.value ∙ sym p.power) (omega (arith, ints), omega (arith, ints))

@@ -2,7 +2,8 @@ use Rattle.std.proofs.Common.{◌≡◌, ℕ, false, not, T, sym, refl, ap, subs
 use lib.Ieee.{Float, nan, inf, fin, binary64, is_nan, to_bits}
 use Rattle.std.specs.Float.{float_with_sign}
 use Rattle.double.specs.Double.{magnitude, finite_nonzero}
-use Rattle.double.proofs.Shape.{passes, Taken, shape, taken_low, taken_high}
+use Rattle.std.proofs.lemmas.Float.{T_from_true}
+use Rattle.double.proofs.Shape.{Taken, shape, taken_low, taken_high}
 use Rattle.double.proofs.Parts.of.Goals as goal
 use Rattle.double.proofs.Parts.of.Goals.{then-field-eq0, else-field-eq0}
 
@@ -23,7 +24,7 @@ float_to_bits-bits c = subst (λ (x : Float). T (not (is_nan x))) (sym (c.abs-bi
 
 pub invariant_of-result : goal.invariant_of-result
 invariant_of-result c =
-    let s = shape c.args.v (passes _ c.well_formed.0.1) c.requires in
+    let s = shape c.args.v (T_from_true _ c.well_formed.0.1) c.requires in
     let e = ap (to_bits binary64) (c.abs-bits.ensures.value ∙ unsigned c.args.v) in
     let t : Taken c.args.v c.if-field-eq0.result.0 c.if-field-eq0.result.1.0 = (elim c.if-field-eq0.branch [
       | then-field-eq0 w ↦ taken_low c.args.v _ _ _ s e w.if-field-eq0.true (ap (λ (r : ℕ × (ℕ × Unit {0})). r.0) w.result-is) (ap (λ (r : ℕ × (ℕ × Unit {0})). r.1.0) w.result-is)
@@ -33,7 +34,7 @@ invariant_of-result c =
 
 pub returns : goal.returns
 returns c =
-    let s = shape c.args.v (passes _ c.well_formed.0.1) c.requires in
+    let s = shape c.args.v (T_from_true _ c.well_formed.0.1) c.requires in
     let e = ap (to_bits binary64) (c.abs-bits.ensures.value ∙ unsigned c.args.v) in
     let t : Taken c.args.v c.if-field-eq0.result.0 c.if-field-eq0.result.1.0 = (elim c.if-field-eq0.branch [
       | then-field-eq0 w ↦ taken_low c.args.v _ _ _ s e w.if-field-eq0.true (ap (λ (r : ℕ × (ℕ × Unit {0})). r.0) w.result-is) (ap (λ (r : ℕ × (ℕ × Unit {0})). r.1.0) w.result-is)
@@ -43,6 +44,6 @@ returns c =
 
 pub overflow_cast-result : goal.overflow_cast-result
 overflow_cast-result c =
-    let s = shape c.args.v (passes _ c.well_formed.0.1) c.requires in
+    let s = shape c.args.v (T_from_true _ c.well_formed.0.1) c.requires in
     let e = ap (to_bits binary64) (c.abs-bits.ensures.value ∙ unsigned c.args.v) in
     omega (arith, e, s.bits, s.small, s.digits)

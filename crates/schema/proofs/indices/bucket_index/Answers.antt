@@ -4,7 +4,7 @@ use borrow.Author.Tests.{clash}
 use lib.Ieee.{Float, nan, inf, fin, binary64, fits, is_nan, eq, of_bits}
 use Rattle.std.specs.Float.{float_is_infinite, float_is_finite}
 use Rattle.double.specs.Double.{finite_nonzero}
-use Rattle.double.proofs.Shape.{passes}
+use Rattle.std.proofs.lemmas.Float.{T_from_true}
 use Rattle.double.proofs.Fraction.{zero_tested, nonzero_tested}
 use Rattle.schema.specs.Bounds.{is_schema, finite_index, index, index_of, nonzero, max_double, OnlyBucket}
 use Rattle.schema.specs.Laws.{Ranged}
@@ -22,8 +22,8 @@ record Found (s : ℤ) (v : Float) (i : ℤ) : Type 0 where
 found : (s : ℤ) (v : Float) (i : ℤ) → T (is_schema s) → T (fits binary64 v) → nonzero v ≡ true → i ≡ index s v → Found s v i
 found s v i h f n e = record {
   value = ap Some e ∙ ap (λ (b : Bool). cond b (Some (index s v)) None) (sym n);
-  bucket = (passes (nonzero v) n, subst (OnlyBucket s v) (sym e) (only_bucket s v h f (passes (nonzero v) n)));
-  range = subst (Ranged s) (sym e) (index_ranged s v h f (passes (nonzero v) n));
+  bucket = (T_from_true (nonzero v) n, subst (OnlyBucket s v) (sym e) (only_bucket s v h f (T_from_true (nonzero v) n)));
+  range = subst (Ranged s) (sym e) (index_ranged s v h f (T_from_true (nonzero v) n));
 }
 
 record Missed (s : ℤ) (v : Float) : Type 0 where
@@ -88,7 +88,7 @@ returns-then-is_infinite c =
     let value : c.finite_index.result ≡ finite_index s max_double = c.finite_index.ensures.value ∙ ap (finite_index s) largest_bits in
     let is : index s v ≡ finite_index s max_double +ℤ pos 1 = i.1 in
     let range = c.finite_index.ensures.range in
-    let f = found s v _ c.args.schema.known (passes _ c.well_formed.1.0.1) i.0 (omega (arith, ints)) in
+    let f = found s v _ c.args.schema.known (T_from_true _ c.well_formed.1.0.1) i.0 (omega (arith, ints)) in
     record { value = f.value; bucket = f.bucket; range = f.range }
 
 pub finite_index-requires-2 : goal.finite_index-requires-2
@@ -100,5 +100,5 @@ returns c =
     let v = c.args.v in
     let i = other_index s v (sym c.if-is_nan.ensures.value) (other_tested v (sym c.if-is_nan.ensures.value) c.if-v.false (sym c.if-is_infinite.ensures.value)) in
     let e : SFits w32 c.finite_index-2.result = search rules in
-    let f = found s v _ c.args.schema.known (passes _ c.well_formed.1.0.1) i.0 (to_z-of_z w32 _ e ∙ c.finite_index-2.ensures.value ∙ sym i.1) in
+    let f = found s v _ c.args.schema.known (T_from_true _ c.well_formed.1.0.1) i.0 (to_z-of_z w32 _ e ∙ c.finite_index-2.ensures.value ∙ sym i.1) in
     record { value = f.value; bucket = f.bucket; range = f.range }

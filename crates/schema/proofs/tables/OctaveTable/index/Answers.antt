@@ -2,7 +2,7 @@ use Rattle.std.proofs.Common.{◌≡◌, ℕ, ap₂, ◌^◌, ◌≤◌, ℤ, po
 use borrow.Author.Differences.{ints}
 use Rattle.std.proofs.lemmas.List.Sorted.{IsPartitionPoint-from_clause}
 use lib.Ieee.{Float, lt}
-use Rattle.double.proofs.Shape.{passes}
+use Rattle.std.proofs.lemmas.Float.{T_from_true}
 use Rattle.double.proofs.Fraction.{Normal, split_normal}
 use Rattle.schema.specs.Bounds.{entries_below}
 use Rattle.schema.specs.Tables.{table}
@@ -54,7 +54,7 @@ returns c =
     let e = c.entries.ensures in
     let x = c.frexp-fraction.ensures in
     let f = c.frexp-fraction.result.0 in
-    let t = split_normal c.args.v (passes _ c.well_formed.1.0.1) c.requires in
+    let t = split_normal c.args.v (T_from_true _ c.well_formed.1.0.1) c.requires in
     let p = subst (λ (y : Float). Normal y t.n) (sym (ap (λ (p : Float × ℤ). p.0) x.value)) t.normal in
     let point = IsPartitionPoint-from_clause (λ x. lt x f) _ _ c.partition_point-place.ensures.partitioned (below_first a _ f t.n e.value e.long known p) (λ a r q k. search rules) in
     let counted : entries_below f (table a) ≡ place = place_counts a _ f t.n place e.value e.long known p c.partition_point-place.ensures.bound point in
