@@ -5,32 +5,41 @@ use crate::trial::{Trial, Trouble};
 use random::Random;
 use store::{BucketStore, StoreFault};
 
+// The index is added.
+fn accepted<S: BucketStore>(trial: &mut Trial<S>, index: i32) -> Result<(), Trouble> {
+    trial.expect(Call::Add(index), Answer::Done)
+}
+
+// The index is outside the range of all schemas.
+fn out_of_range<S: BucketStore>(trial: &mut Trial<S>, index: i32) -> Result<(), Trouble> {
+    let fault = StoreFault::OutOfRange(index);
+    trial.expect(Call::Add(index), Answer::Refused(fault))
+}
+
+// There is no room for the index.
+fn turned_away<S: BucketStore>(trial: &mut Trial<S>, index: i32) -> Result<(), Trouble> {
+    trial.expect(Call::HasRoom(index), Answer::Room(false))?;
+    let fault = StoreFault::NoRoom(index);
+    trial.expect(Call::Add(index), Answer::Refused(fault))
+}
+
 // The ends of the range of indices, and what lies past them.
 fn range<S: BucketStore>(trial: &mut Trial<S>) -> Result<(), Trouble> {
     for index in [i32::MIN, -274_945, 262_146, i32::MAX] {
         trial.expect(Call::Clear, Answer::Done)?;
-        trial.expect(
-            Call::Add(index),
-            Answer::Refused(StoreFault::OutOfRange(index)),
-        )?;
+        out_of_range(trial, index)?;
         trial.expect(Call::Size, Answer::Size(0))?;
         trial.expect(Call::HasRoom(index), Answer::Room(true))?;
     }
     for index in [-274_944, 262_145] {
         trial.expect(Call::Clear, Answer::Done)?;
-        trial.expect(Call::Add(index), Answer::Done)?;
+        accepted(trial, index)?;
         trial.expect(Call::Pair(0), Answer::Pair(Some((index, 1))))?;
         trial.call(Call::HasRoom(i32::MIN))?;
         trial.call(Call::HasRoom(i32::MAX))?;
-        trial.expect(
-            Call::Add(i32::MIN),
-            Answer::Refused(StoreFault::OutOfRange(i32::MIN)),
-        )?;
-        trial.expect(
-            Call::Add(i32::MAX),
-            Answer::Refused(StoreFault::OutOfRange(i32::MAX)),
-        )?;
-        trial.expect(Call::Add(index), Answer::Done)?;
+        out_of_range(trial, i32::MIN)?;
+        out_of_range(trial, i32::MAX)?;
+        accepted(trial, index)?;
         trial.expect(Call::TakeLowest, Answer::Pair(Some((index, 2))))?;
         trial.expect(Call::TakeLowest, Answer::Pair(None))?;
     }
@@ -41,7 +50,7 @@ fn range<S: BucketStore>(trial: &mut Trial<S>) -> Result<(), Trouble> {
 fn halving<S: BucketStore>(trial: &mut Trial<S>) -> Result<(), Trouble> {
     trial.expect(Call::Clear, Answer::Done)?;
     for index in [-3, -2, -1, 0, 1, 2, 3, 4, 4] {
-        trial.expect(Call::Add(index), Answer::Done)?;
+        accepted(trial, index)?;
     }
     trial.expect(Call::Halve, Answer::Done)?;
     let halves = [(-1, 2), (0, 2), (1, 2), (2, 3)];
@@ -55,12 +64,6 @@ fn halving<S: BucketStore>(trial: &mut Trial<S>) -> Result<(), Trouble> {
         trial.compare_all()?;
     }
     Ok(())
-}
-
-// There is no room for the index.
-fn turned_away<S: BucketStore>(trial: &mut Trial<S>, index: i32) -> Result<(), Trouble> {
-    trial.expect(Call::HasRoom(index), Answer::Room(false))?;
-    trial.expect(Call::Add(index), Answer::Refused(StoreFault::NoRoom(index)))
 }
 
 // Halves until nothing meets any more.
@@ -88,18 +91,15 @@ fn brim<S: BucketStore>(trial: &mut Trial<S>) -> Result<(), Trouble> {
     for index in [-161, 160, -274_944, 262_145] {
         turned_away(trial, index)?;
     }
-    trial.expect(
-        Call::Add(i32::MAX),
-        Answer::Refused(StoreFault::OutOfRange(i32::MAX)),
-    )?;
+    out_of_range(trial, i32::MAX)?;
     for index in [-160, 0, 159] {
         trial.expect(Call::HasRoom(index), Answer::Room(true))?;
-        trial.expect(Call::Add(index), Answer::Done)?;
+        accepted(trial, index)?;
     }
     trial.expect(Call::Pair(0), Answer::Pair(Some((-160, 2))))?;
     trial.expect(Call::Pair(319), Answer::Pair(Some((159, 2))))?;
     trial.expect(Call::TakeLowest, Answer::Pair(Some((-160, 2))))?;
-    trial.expect(Call::Add(262_145), Answer::Done)?;
+    accepted(trial, 262_145)?;
     turned_away(trial, -160)?;
     trial.compare_all()
 }
@@ -114,13 +114,13 @@ fn filled<S: BucketStore, F: Fn(&mut Trial<S>) -> Result<(), Trouble>>(
     requires { F.IsAlwaysCallable when_full }
 {
     trial.expect(Call::Clear, Answer::Done)?;
-    (lowest..=highest).try_for_each(|index| trial.expect(Call::Add(index), Answer::Done))?;
+    (lowest..=highest).try_for_each(|index| accepted(trial, index))?;
     when_full(trial)?;
     halve_down(trial)?;
     trial.expect(Call::Clear, Answer::Done)?;
     (lowest..=highest)
         .rev()
-        .try_for_each(|index| trial.expect(Call::Add(index), Answer::Done))?;
+        .try_for_each(|index| accepted(trial, index))?;
     when_full(trial)?;
     take_all(trial)
 }
@@ -137,14 +137,11 @@ fn window<S: BucketStore>(trial: &mut Trial<S>) -> Result<(), Trouble> {
     for index in [-201, 312, -274_944, 262_145] {
         turned_away(trial, index)?;
     }
-    trial.expect(
-        Call::Add(i32::MIN),
-        Answer::Refused(StoreFault::OutOfRange(i32::MIN)),
-    )?;
-    trial.expect(Call::Add(311), Answer::Done)?;
+    out_of_range(trial, i32::MIN)?;
+    accepted(trial, 311)?;
     trial.expect(Call::Pair(511), Answer::Pair(Some((311, 2))))?;
     trial.expect(Call::TakeLowest, Answer::Pair(Some((-200, 1))))?;
-    trial.expect(Call::Add(312), Answer::Done)?;
+    accepted(trial, 312)?;
     turned_away(trial, -200)?;
     turned_away(trial, 313)?;
     trial.compare_all()
@@ -153,18 +150,18 @@ fn window<S: BucketStore>(trial: &mut Trial<S>) -> Result<(), Trouble> {
 // Two indices alone: as far apart as a run allows, and one farther.
 fn reach<S: BucketStore>(trial: &mut Trial<S>, index: i32) -> Result<(), Trouble> {
     trial.expect(Call::Clear, Answer::Done)?;
-    trial.expect(Call::Add(index), Answer::Done)?;
+    accepted(trial, index)?;
     turned_away(trial, index.saturating_add(512))?;
     turned_away(trial, index.saturating_sub(512))?;
-    trial.expect(Call::Add(index.saturating_add(511)), Answer::Done)?;
+    accepted(trial, index.saturating_add(511))?;
     turned_away(trial, index.saturating_sub(1))?;
-    trial.expect(Call::Add(index.saturating_add(1)), Answer::Done)?;
+    accepted(trial, index.saturating_add(1))?;
     trial.expect(
         Call::Pair(2),
         Answer::Pair(Some((index.saturating_add(511), 1))),
     )?;
     trial.expect(Call::TakeLowest, Answer::Pair(Some((index, 1))))?;
-    trial.expect(Call::Add(index.saturating_add(512)), Answer::Done)?;
+    accepted(trial, index.saturating_add(512))?;
     trial.compare_all()
 }
 
