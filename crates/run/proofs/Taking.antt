@@ -40,8 +40,12 @@ module _ {cs : List ℕ} {first span size sum at top : ℕ} {p : ℤ × ℕ} (w 
   pub takes_size : 1 ≤ size
   takes_size = let parts = size_parts in omega arith
 
-  pub takes_sum : p.1 ≤ sum
-  takes_sum = let parts = sum_parts in let c = ap (λ q. q.1) lowest_pair in omega arith
+  pub takes_sum : (0 < p.1) × (p.1 ≤ sum)
+  takes_sum =
+      let parts = sum_parts in
+      let c = ap (λ q. q.1) lowest_pair in
+      let used = w.low ends.0 in
+      (omega arith, omega arith)
 
   -- the window is left from the next used counter on
   module _ (long : length cs ≡ 512) {next first' span' : ℕ} (n : Next (counter cs) (at + 1) (first + span) next) (f : first' ≡ next) (s : span' ≡ first + span - next) where

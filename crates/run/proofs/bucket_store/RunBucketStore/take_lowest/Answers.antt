@@ -8,7 +8,9 @@ pub overflow_sub-self : goal.overflow_sub-self
 overflow_sub-self c = takes_size (window_of c.args.self.now) c.in_ok-lowest.ensures c.bucket-index.ensures
 
 pub overflow_sub-self-2 : goal.overflow_sub-self-2
-overflow_sub-self-2 c = takes_sum (window_of c.args.self.now) c.in_ok-lowest.ensures c.bucket-index.ensures
+overflow_sub-self-2 c =
+    let count = takes_sum (window_of c.args.self.now) c.in_ok-lowest.ensures c.bucket-index.ensures in
+    omega arith
 
 pub invariant_of-self : goal.invariant_of-self
 invariant_of-self c =
