@@ -37,6 +37,7 @@ impl WriteFault {
     }
 }
 
+// By hand, since the contract promises the text.
 impl fmt::Display for WriteFault {
     ghost output = { λ f. Some (write_message f) };
 
@@ -101,6 +102,7 @@ impl SpanFault {
     }
 }
 
+// By hand, since the contract promises the text.
 impl fmt::Display for SpanFault {
     ghost output = { λ f. Some (span_message f) };
 

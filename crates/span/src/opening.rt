@@ -29,6 +29,7 @@ impl<'a> NativeHistogramBuckets<'a> {
 fn check_lengths(spans: &[(i32, u32)], deltas: &[i64]) -> Result<(), SpanFault>
     ensures { fault_of result ≡ lengths_refusal spans.now deltas.now }
 {
+    // `as`, since no `From` leads from `usize` to `u128`, and the length of a slice fits 63 bits.
     if sum_of_lengths(spans) == deltas.len() as u128 {
         Ok(())
     } else {
@@ -71,6 +72,7 @@ fn check_span(number: usize, next: i64, span: (i32, u32)) -> Result<i64, SpanFau
     requires high { next ≤ℤ pos 262146 }
     ensures { Checked number next span result }
 {
+    // `as`, since no slice is so long that the number would not fit.
     let place = number as i64;
     if span.1 == 0 {
         return Err(SpanFault::EmptySpan(place));

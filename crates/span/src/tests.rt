@@ -31,14 +31,10 @@ fn taken<'x>(
     sum: u64,
 ) -> Result<(), Fail> {
     let reader = (NativeHistogramBuckets { spans, deltas }).read()?;
-    let mut seen = 0u64;
-    let mut total = 0u64;
-    for (_, count) in reader {
-        seen = seen.wrapping_add(1);
-        total = total.wrapping_add(count);
-    }
-    assert_eq!(rt; seen, pairs);
-    assert_eq!(rt; total, sum);
+    let sums = reader.fold((0u64, 0u64), |(seen, total), (_, count)| {
+        (seen.wrapping_add(1), total.wrapping_add(count))
+    });
+    assert_eq!(rt; sums, (pairs, sum));
     Ok(())
 }
 

@@ -59,6 +59,7 @@ fn fill<S: BucketStore>(store: &S, spans: &mut [(i32, u32)], deltas: &mut [i64])
     requires { write_refusal (S.BucketStore.pairs store.now) (length spans.old) (length deltas.old) ≡ None }
     ensures { Laid (S.BucketStore.pairs store.now) spans.old deltas.old spans.new deltas.new }
 {
+    // Counted, since of elements written through a zipped `iter_mut` nothing could be promised.
     let mut written = Lengths::default();
     let mut end = None;
     let mut previous = 0;
