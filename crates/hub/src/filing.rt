@@ -86,6 +86,7 @@ impl Plug {
         }
     }
 
+    // How its buckets are kept.
     pub fn settings(&self) -> Settings
         ensures kind { result.kind ≡ kind_of self.now.positive }
         ensures schema { result.schema ≡ self.now.schema }

@@ -14,7 +14,7 @@ pub struct Settings {
     pub schema: Schema,
 }
 
-// Of a plug that names none: a row, and eight buckets in each octave.
+// What a plug that names none keeps: rows, and eight buckets in each octave.
 impl Default for Settings {
     ghost use Rattle.std.specs.Prelude.{pos};
     ghost use Rattle.hub.specs.declared.chosen.StoreKind.TheVariants.{Row};

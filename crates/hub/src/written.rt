@@ -19,14 +19,13 @@ pub struct Written {
 impl fmt::Display for Written {
     fn fmt<W: fmt::Write>(&self, f: &mut fmt::Formatter<W>) -> fmt::Result {
         write!(f, "spans")?;
-        for (offset, length) in &self.spans {
-            write!(f, " {offset}:{length}")?;
-        }
+        self.spans
+            .iter()
+            .try_for_each(|(offset, length)| write!(f, " {offset}:{length}"))?;
         write!(f, " /")?;
-        for delta in &self.deltas {
-            write!(f, " {delta}")?;
-        }
-        Ok(())
+        self.deltas
+            .iter()
+            .try_for_each(|delta| write!(f, " {delta}"))
     }
 }
 
@@ -37,6 +36,7 @@ pub enum FormError<F> {
     NoMemory(AllocError),
 }
 
+// By hand, since the contracts below tell the two cases apart and a derived `from` would not say which it makes.
 impl<F> From<AllocError> for FormError<F> {
     ghost from_gives = { λ a e. e ≡ NoMemory a };
 
