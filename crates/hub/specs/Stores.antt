@@ -3,9 +3,7 @@ use Rattle.std.specs.Prelude.{T}
 use Rattle.store.specs.Pairs.{Means, ranged}
 use Rattle.store.specs.Stores.{Roomy}
 use Rattle.row.specs.Laws.{row_means, row_ranged, row_roomy}
-use Rattle.run.specs.Window.{counter}
-use Rattle.run.specs.Listings.{ranged_listing}
-use Rattle.run.specs.Windows.{window_of, window_means, window_roomy}
+use Rattle.run.specs.Windows.{window_of, window_means, window_ranged, window_roomy}
 use Rattle.hub.specs.declared.chosen.Buckets.{Buckets}
 use Rattle.hub.specs.declared.chosen.Buckets.TheVariants.{InRow, InRun}
 use Rattle.hub.specs.Chosen.{pairs_in, room_in}
@@ -16,7 +14,7 @@ means_in (InRun run) = window_means (window_of run)
 
 pub ranged_in : (b : Buckets) → T (ranged (pairs_in b))
 ranged_in (InRow row) = row_ranged row
-ranged_in (InRun run) = ranged_listing (counter run.counters) run.first run.span run.reach
+ranged_in (InRun run) = window_ranged (window_of run)
 
 pub roomy_in : (b : Buckets) → Roomy (pairs_in b) (room_in b)
 roomy_in (InRow row) = row_roomy row

@@ -203,6 +203,17 @@ pub raised_one : (i : ℤ) (ps : Pairs) → raised_by i 1 ps ≡ raised i ps
 raised_one i [] = refl
 raised_one i (p ∷ ps) = ap (λ qs. cond (int_lt i p.0) ((i, 1) ∷ p ∷ ps) (cond (same i p.0) ((p.0, p.1 + 1) ∷ ps) (p ∷ qs))) (raised_one i ps)
 
+-- a pair joined to a list of higher indices, and one that meets the first
+pub joined_above : (p : ℤ × ℕ) (ps : Pairs) → Above p.0 ps → joined p ps ≡ p ∷ ps
+joined_above p [] a = refl
+joined_above p (q ∷ qs) a = cond-false (same p.0 q.0) _ _ (below_same p.0 q.0 a.0)
+
+pub joined_here : (i : ℤ) (d c : ℕ) (ps : Pairs) → Above i ps → joined (i, suc d) (put_count i c ps) ≡ put_count i (suc d + c) ps
+joined_here i d zero ps a = joined_above (i, suc d) ps a ∙ ap (λ n. put_count i n ps) (sym (add-zero (suc d)))
+joined_here i d (suc c) ps a =
+    cond-true (same i i) _ _ (same_itself i)
+    ∙ sym (counted_used i (suc d + suc c) ps (omega arith))
+
 -- below every listed index or at the lowest, as a pair is joined
 joined_counted : (i j : ℤ) (c d : ℕ) (ps : Pairs) → i ≤ℤ j → raised_by i c ps ≡ joined (i, c) ps → raised_by i c (put_count j d ps) ≡ joined (i, c) (put_count j d ps)
 joined_counted i j c zero ps h e = e

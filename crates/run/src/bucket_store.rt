@@ -85,14 +85,6 @@ impl Run {
     }
 }
 
-impl Default for Run {
-    ghost is_default = { λ run. pairs_of run ≡ [] };
-
-    fn default() -> Self {
-        Run::new()
-    }
-}
-
 impl BucketStore for Run {
     ghost pairs = { pairs_of };
 
