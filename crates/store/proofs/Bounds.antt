@@ -1,18 +1,15 @@
 -- Lists whose indices all lie above, below or from an index, and rising lists by their parts.
-use Rattle.std.proofs.Common.{◌≡◌, ℕ, ◌<◌, Bool, true, false, ◌&&◌, T, ltb, [], ◌∷◌, ℤ, ◌≤ℤ◌, ◌<ℤ◌, refl, arith}
+use Rattle.std.proofs.Common.{◌≡◌, ℕ, ◌<◌, Bool, false, ◌&&◌, T, ltb, [], ◌∷◌, ℤ, ◌≤ℤ◌, ◌<ℤ◌, refl, arith}
 use Rattle.std.proofs.lemmas.Int.{ints}
 use Rattle.std.proofs.lemmas.Bool.Decides.{nat_tests}
 use Rattle.store.specs.Pairs.{Pairs, leads, rising, counted, listed, count_at}
 use Rattle.store.proofs.Order.{same_itself, same_true, below_same}
 
 pub and_T : (x y : Bool) → T (x && y) → T x × T y
-and_T true true t = (tt, tt)
-and_T true false t = absurd t
-and_T false y t = absurd t
+and_T x y t = grind arith
 
 pub T_and : (x y : Bool) → T x → T y → T (x && y)
-T_and true y s t = t
-T_and false y s t = absurd s
+T_and x y s t = grind arith
 
 -- every index is above i
 abbrev pub Above : ℤ → Pairs → Type 0

@@ -1,6 +1,5 @@
 -- Halving every index.
-use Rattle.std.proofs.Common.{◌≡◌, ℕ, suc, ◌+◌, ◌<◌, ◌≤◌, cond, ◌||◌, T, [], ◌∷◌, length, ℤ, pos, negsuc, ◌+ℤ◌, ◌-ℤ◌, ◌≤ℤ◌, refl, arith}
-use lib.Signed.{le_z, le_z_yes}
+use Rattle.std.proofs.Common.{◌≡◌, ℕ, suc, ◌+◌, ◌<◌, ◌≤◌, cond, ◌||◌, T, [], ◌∷◌, length, ℤ, pos, ◌+ℤ◌, ◌-ℤ◌, ◌≤ℤ◌, refl, arith}
 use Rattle.std.proofs.lemmas.Int.{ints}
 use Rattle.std.proofs.lemmas.Bool.{cond_both}
 use Rattle.index.specs.Index.{in_index_range, halved}
@@ -8,18 +7,13 @@ use Rattle.index.proofs.Halving.{halves}
 use Rattle.store.specs.Pairs.{Pairs, Means, same, rising, counted, total, listed, count_at, joined, halved_pairs}
 use Rattle.store.specs.Laws.{Halving}
 use Rattle.store.proofs.Order.{same_from, same_true, same_false}
-use Rattle.store.proofs.Bounds.{Above, From, and_T, above_apart, above_less, from_above, rising_tail, rising_above, rising_more, counted_first, counted_tail, counted_more, uncounted_above}
+use Rattle.store.proofs.Bounds.{Above, From, above_apart, above_less, from_above, rising_tail, rising_above, rising_more, counted_first, counted_tail, counted_more, uncounted_above}
 
 pub halved_order : (i j : ℤ) → i ≤ℤ j → halved i ≤ℤ halved j
 halved_order i j h = let a = halves i in let b = halves j in omega (arith, ints)
 
 pub halved_in_range : (i : ℤ) → T (in_index_range i) → T (in_index_range (halved i))
-halved_in_range i t =
-    let r = and_T (le_z (negsuc 274943) i) (le_z i (pos 262145)) t in
-    let low : negsuc 274943 ≤ℤ i = le_z_yes r.0 in
-    let high : i ≤ℤ pos 262145 = le_z_yes r.1 in
-    let h = halves i in
-    grind (arith, ints)
+halved_in_range i t = let h = halves i in grind (arith, ints)
 
 -- the two ways of `joined`, for a fact about the list that results
 pub by_joined : (P : Pairs → Type 0) (p q : ℤ × ℕ) (qs : Pairs) → (p.0 ≡ q.0 → P ((p.0, p.1 + q.1) ∷ qs)) → ((p.0 ≡ q.0 → ⊥) → P (p ∷ q ∷ qs)) → P (joined p (q ∷ qs))

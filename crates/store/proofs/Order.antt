@@ -1,17 +1,15 @@
 -- Tests on indices, and what they tell.
-use Rattle.std.proofs.Common.{◌≡◌, Bool, true, false, T, ◌⊎◌, ℤ, pos, negsuc, ◌≤ℤ◌, ◌<ℤ◌, refl, arith}
+use Rattle.std.proofs.Common.{◌≡◌, Bool, true, false, T, ◌⊎◌, ℤ, pos, negsuc, ◌≤ℤ◌, ◌<ℤ◌, arith}
 use lib.Signed.{lt_z}
 use Rattle.std.proofs.lemmas.Int.{ints}
 use Rattle.std.proofs.lemmas.Bool.Decides.{nat_tests}
 use Rattle.store.specs.Pairs.{same}
 
 pub T_true : (b : Bool) → T b → b ≡ true
-T_true true t = refl
-T_true false t = absurd t
+T_true b t = grind arith
 
 pub true_T : (b : Bool) → b ≡ true → T b
-true_T true e = tt
-true_T false e = cc
+true_T b e = grind arith
 
 pub same_itself : (i : ℤ) → same i i ≡ true
 same_itself (pos a) = grind (arith, nat_tests)

@@ -82,17 +82,13 @@ halved_more (x ∷ xs) a =
 -- the same by position, where k is the last
 pub joined_last_set : (ws : Pairs) (k : ℕ) (d a : ℤ × ℕ) → length ws ≡ suc k → (get_or ws k d).0 ≡ a.0 → joined_last ws a ≡ set ws k ((get_or ws k d).0, (get_or ws k d).1 + a.1)
 joined_last_set [] k d a l e = absurd (omega arith)
-joined_last_set (w ∷ []) zero d a l e = grind (arith, same_from)
-joined_last_set (w ∷ []) (suc k) d a l e = absurd (omega arith)
-joined_last_set (w ∷ v ∷ ws) zero d a l e = absurd (omega arith)
-joined_last_set (w ∷ v ∷ ws) (suc k) d a l e = grind (arith, joined_last_set (v ∷ ws) k d a)
+joined_last_set (w ∷ []) k d a l e = grind (arith, same_from)
+joined_last_set (w ∷ v ∷ ws) k d a l e = grind (arith, joined_last_set (v ∷ ws) (length ws) d a refl)
 
 pub joined_last_push : (ws : Pairs) (k : ℕ) (d a : ℤ × ℕ) → length ws ≡ suc k → ((get_or ws k d).0 ≡ a.0 → ⊥) → joined_last ws a ≡ ws ++ a ∷ []
 joined_last_push [] k d a l n = absurd (omega arith)
-joined_last_push (w ∷ []) zero d a l n = grind (arith, same_true)
-joined_last_push (w ∷ []) (suc k) d a l n = absurd (omega arith)
-joined_last_push (w ∷ v ∷ ws) zero d a l n = absurd (omega arith)
-joined_last_push (w ∷ v ∷ ws) (suc k) d a l n = grind (arith, joined_last_push (v ∷ ws) k d a)
+joined_last_push (w ∷ []) k d a l n = grind (arith, same_true)
+joined_last_push (w ∷ v ∷ ws) k d a l n = grind (arith, joined_last_push (v ∷ ws) (length ws) d a refl)
 
 -- in the first n places of an array: a count raised at k, and halving one place further
 pub raised_taken : (xs : Pairs) (n k : ℕ) (d : ℤ × ℕ) → T (rising (take n xs)) → k < n → n ≤ length xs → raised (get_or xs k d).0 (take n xs) ≡ take n (set xs k ((get_or xs k d).0, (get_or xs k d).1 + 1))

@@ -33,5 +33,5 @@ taken_first p ps r =
     }
 
 pub taking : Taking
-taking p [] r e = let z : ◌≡◌ {A = ℕ} 0 1 = cc in absurd (omega arith)
+taking p [] r e = cc
 taking p (q ∷ ps) r e = let s : q ≡ p = cc in subst (λ x. Taken x (q ∷ ps)) s (taken_first q ps r)
