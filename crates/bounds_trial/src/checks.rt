@@ -1,4 +1,6 @@
 // Counts the checks of a schema, and keeps the first that fails.
+ghost use Rattle.std.specs.Prelude.{◌≡◌};
+
 use schema::Schema;
 use std::fmt;
 
@@ -47,7 +49,7 @@ impl Place {
 
 // A check that failed, and where.
 #[derive(Clone, Copy)]
-struct Failure {
+pub struct Failure {
     law: Law,
     place: Place,
 }
@@ -67,12 +69,26 @@ pub struct Checks {
 }
 
 impl Checks {
-    pub fn new(schema: Schema) -> Checks {
+    pub fn new(schema: Schema) -> Checks
+        ensures { result.made ≡ 0 }
+    {
         Checks {
             schema,
             made: 0,
             first_failure: None,
         }
+    }
+
+    pub fn made(&self) -> u64
+        ensures { result ≡ self.now.made }
+    {
+        self.made
+    }
+
+    pub fn first_failure(&self) -> Option<Failure>
+        ensures { result ≡ self.now.first_failure }
+    {
+        self.first_failure
     }
 
     // One more check, of a number and the index there.
@@ -86,8 +102,8 @@ impl Checks {
 
 impl fmt::Display for Checks {
     fn fmt<W: fmt::Write>(&self, f: &mut fmt::Formatter<W>) -> fmt::Result {
-        let made = self.made;
-        match self.first_failure {
+        let made = self.made();
+        match self.first_failure() {
             None => write!(f, "{made} checks ok"),
             Some(failure) => write!(f, "{made} checks, first failure: {failure}"),
         }

@@ -1,6 +1,9 @@
-// A plain model of a store: a map from each listed index to its count, and a rule of room.
+// A plain model of a store: a map from each listed index to its count, and a rule of room. It shares no
+// function with the stores that it is compared with.
+ghost use Rattle.std.specs.Prelude.{◌≡◌};
+ghost use Rattle.index.specs.Index.{in_index_range, Halves};
+
 use crate::calls::{Answer, Call};
-use index::{coarser_index, in_index_range};
 use std::alloc::{AllocError, Global};
 use std::collections::BTreeMap;
 use store::StoreFault;
@@ -19,6 +22,20 @@ pub struct Model {
     heap: Global,
     counts: BTreeMap<i32, u64>,
     rule: Rule,
+}
+
+// Half the index, rounded up.
+fn half(index: i32) -> i32
+    ensures { Halves index result }
+{
+    ((i64::from(index) + 1) >> 1) as i32
+}
+
+// Whether some schema gives this index to some number.
+fn known(index: i32) -> bool
+    ensures { result ≡ in_index_range index }
+{
+    (-274_944..=262_145).contains(&index)
 }
 
 impl Model {
@@ -45,7 +62,7 @@ impl Model {
     }
 
     fn add(&mut self, index: i32) -> Result<Answer, AllocError> {
-        if !in_index_range(index) {
+        if !known(index) {
             return Ok(Answer::Refused(StoreFault::OutOfRange(index)));
         }
         if !self.has_room(index) {
@@ -59,7 +76,7 @@ impl Model {
     fn halve(&mut self) -> Result<(), AllocError> {
         let mut coarser = BTreeMap::new(self.heap);
         for (index, count) in &self.counts {
-            let sum = coarser.entry(coarser_index(*index))?.or_insert(0u64);
+            let sum = coarser.entry(half(*index))?.or_insert(0u64);
             *sum = sum.saturating_add(*count);
         }
         self.counts = coarser;
