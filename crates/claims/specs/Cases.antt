@@ -1,5 +1,5 @@
 -- Worked cases, each a computation of the definitions.
-use Rattle.std.specs.Prelude.{◌≡◌, ℕ, ◌+◌, ◌^◌, false, ℤ, pos, negsuc, Some, Option, Float}
+use Rattle.std.specs.Prelude.{◌≡◌, ◌+◌, ◌^◌, false, ℤ, pos, negsuc, Some, Option, Float}
 use Rattle.std.specs.Float.{inf, fin}
 use Rattle.schema.specs.Bounds.{index_of, max_double, min_double}
 

@@ -6,7 +6,7 @@ ghost use Rattle.span.specs.Readers.{reader_buckets, reader_pairs, Gives};
 use crate::reader::BucketReader;
 
 impl BucketReader<'_> {
-    // Begins spans until one lists something, while there is something to read.
+    // Begins spans until one lists something, where there is something to read.
     fn begin_span(&mut self)
         requires { 0 < length self.old.deltas.now }
         ensures some { 0 < self.new.left }

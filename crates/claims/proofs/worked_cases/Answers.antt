@@ -18,5 +18,5 @@ indices = record {
   fine_lowest = refl;
 }
 
-pub returns : goal.returns
-returns c = record { indices = indices; spans = record { of_spans = refl; of_deltas = refl; back = refl } }
+pub returns-clause-indices : goal.returns-clause-indices
+returns-clause-indices c = indices
