@@ -5,8 +5,8 @@ use row::Row;
 use run::Run;
 use store::BucketStore;
 
-// Adds all the indices, and answers how many were accepted. With `filter` and `count` in place of the loop, a run's add
-// takes a third longer.
+// Adds all the indices, and answers how many were accepted. With `filter` and `count` in place of the loop, a row's add of
+// indices in order takes half as long again.
 fn add_all<S: BucketStore>(store: &mut S, indices: &[i32]) -> u64 {
     let mut accepted = 0u64;
     for index in indices {
