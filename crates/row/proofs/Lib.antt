@@ -1,5 +1,6 @@
 pub mod Kept
 pub mod Places
+pub mod Steps
 pub mod Raising
 pub mod Moves
 pub mod Joins

@@ -16,6 +16,21 @@ impl Row {
     pub fn search(&self, index: i32) -> Result<usize, usize>
         ensures { result ≡ sought index (row_pairs self.now) }
     {
-        self.listed().binary_search_by_key(&index, |pair| pair.0)
+        // By hand, since with `binary_search_by_key` an add takes about a fifth longer, and three times as long where the indices come in order.
+        let mut low = 0;
+        let mut high = self.size;
+        while low < high {
+            let middle = low + (high - low) / 2;
+            let here = self.pairs[middle].0;
+            if here == index {
+                return Ok(middle);
+            }
+            if here < index {
+                low = middle + 1;
+            } else {
+                high = middle;
+            }
+        }
+        Err(low)
     }
 }
