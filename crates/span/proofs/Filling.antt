@@ -1,13 +1,14 @@
 -- The pairs with short gaps filled, as they are listed one after another.
-use Rattle.std.proofs.Common.{◌≡◌, ℕ, zero, suc, ◌+◌, ◌^◌, ◌<◌, ◌≤◌, true, false, T, ◌⊎◌, [], ◌∷◌, length, drop, ℤ, pos, negsuc, ◌+ℤ◌, ◌-ℤ◌, ◌≤ℤ◌, Some, None, Option, sym, refl, ap, ◌∙◌, inl, inr, arith, w32, to_z, of_z}
+use Rattle.std.proofs.Common.{◌≡◌, ℕ, zero, suc, ◌+◌, ◌^◌, ◌<◌, ◌≤◌, true, false, T, ◌⊎◌, [], ◌∷◌, length, drop, ℤ, pos, negsuc, ◌+ℤ◌, ◌-ℤ◌, ◌≤ℤ◌, is_some, Some, None, Option, sym, refl, ap, ◌∙◌, inl, inr, arith, w32, to_z, of_z}
 use lib.Signed.{le_z, lt_z, ◌<ℤ◌}
+use borrow.Author.Tests.{clash}
 use Rattle.std.specs.Option.{MatchOption}
 use Rattle.std.proofs.lemmas.Int.{ints}
 use Rattle.std.proofs.lemmas.Grind.{common_steps}
 use Rattle.index.specs.Index.{in_index_range}
 use Rattle.store.specs.Pairs.{Pairs, Means, counted, ranged, total, pair_at}
 use Rattle.store.proofs.Bounds.{counted_first, counted_tail}
-use Rattle.store.proofs.Range.{ranged_first, ranged_tail}
+use Rattle.store.proofs.Range.{ranged_tail}
 use Rattle.span.specs.Spans.{filled, filled_from, ahead}
 
 -- the two bounds of an index in range
@@ -19,12 +20,10 @@ pub ranges : (i : ℤ) → T (in_index_range i) → Ranges i
 ranges i t = record { low = grind (arith, ints); high = grind (arith, ints) }
 
 -- a pair that stands at a position
-pub pair_ranges : (ps : Pairs) (k : ℕ) (p : ℤ × ℕ) → T (ranged ps) → pair_at ps k ≡ Some p → Ranges p.0
-pair_ranges [] k p t e = absurd (let z : ◌≡◌ {A = ℕ} 0 1 = cc in omega arith)
-pair_ranges (q ∷ qs) zero p t e =
-    let f : q ≡ p = cc in
-    rw (sym f) (ranges q.0 (ranged_first q qs t))
-pair_ranges (q ∷ qs) (suc k) p t e = pair_ranges qs k p (ranged_tail q qs t) e
+pub pair_ranges : (ps : Pairs) (k : ℕ) {p : ℤ × ℕ} → T (ranged ps) → Some p ≡ pair_at ps k → Ranges p.0
+pair_ranges [] k t e = absurd (clash (sym (ap is_some e)))
+pair_ranges (q ∷ qs) zero {p} t e = record { low = grind (arith, ints); high = grind (arith, ints) }
+pair_ranges (q ∷ qs) (suc k) t e = pair_ranges qs k (ranged_tail q qs t) e
 
 pub pair_within : (ps : Pairs) (k : ℕ) (p : ℤ × ℕ) → pair_at ps k ≡ Some p → k < length ps
 pair_within [] k p e = grind arith
@@ -80,7 +79,7 @@ pub starts : {Is : ℤ × ℕ → Type 0} (ps : Pairs) (o : Option (ℤ × ℕ))
 starts ps None next t e z f = record { low = omega (arith, ints); high = omega (arith, ints); all = ahead_empty ps next (sym e) }
 starts ps (Some p) next t e z f =
     let i = f p z in
-    let r = pair_ranges ps 0 p t (sym e) in
+    let r = pair_ranges ps 0 t e in
     let l = r.low in
     let h = r.high in
     record { low = omega (arith, ints); high = omega (arith, ints); all = ap (ahead ps 0) i ∙ ahead_start ps p (sym e) }

@@ -87,12 +87,11 @@ loop-index-preserved g c =
     let k = seen_small s e r.small in
     let n = last_more 0 c.loop-index.yielded (c.in-Some.index, c.in-Some.count) in
     let b = y.before in
-    let deltas = laying_deltas s e c.args.deltas.now c.loop-index.deltas _ _ b (omega (arith, ints)) r.of_deltas y.of_deltas in
     elim c.if-eq.branch [
       | then-eq w ↦
           let j = joins p _ (sym c.eq.ensures ∙ w.if-eq.true) in (
             seen_more s e _ _ (after_is p) k (ap (λ n. n.spans) w.written-is ∙ sym (spans_same s e j)) (ap (λ n. n.deltas) w.written-is),
-            record { of_spans = w.spans-is ∙ laying_last s e j c.args.spans.now c.loop-index.spans (pos 0, 0) y.of_spans; of_deltas = deltas; before = omega (arith, ints) },
+            record { of_spans = w.spans-is ∙ laying_last s e j c.args.spans.now c.loop-index.spans (pos 0, 0) y.of_spans; of_deltas = laying_deltas s e c.args.deltas.now c.loop-index.deltas _ _ b (omega (arith, ints)) r.of_deltas y.of_deltas; before = omega (arith, ints) },
           )
       | else-eq w ↦
           let a = starts p _ (sym c.eq.ensures ∙ w.if-eq.false) in
@@ -102,6 +101,6 @@ loop-index-preserved g c =
           let il = p.index_low in
           let ih = p.index_high in (
             seen_more s e _ _ (after_is p) k (ap (λ n. n.spans) w.written-is ∙ sym (spans_new s e a)) (ap (λ n. n.deltas) w.written-is),
-            record { of_spans = laying_new s e a c.args.spans.now c.loop-index.spans w.spans-is (omega (arith, ints)) r.of_spans y.of_spans; of_deltas = deltas; before = omega (arith, ints) },
+            record { of_spans = laying_new s e a c.args.spans.now c.loop-index.spans w.spans-is (omega (arith, ints)) r.of_spans y.of_spans; of_deltas = laying_deltas s e c.args.deltas.now c.loop-index.deltas _ _ b (omega (arith, ints)) r.of_deltas y.of_deltas; before = omega (arith, ints) },
           )
     ]

@@ -15,13 +15,13 @@ returns-in_err-index-clause-steps g c =
 pub overflow_sub-gap : goal.overflow_sub-gap
 overflow_sub-gap g c =
     let s = c.self.inside in
-    let r = pair_ranges (g.S.BucketStore.pairs s.store.now) s.position (c.in_ok-index.index, c.in_ok-index.count) (g.met.S.BucketStore.in_range s.store.now) (sym c.in_ok-index.ensures) in
+    let r = pair_ranges (g.S.BucketStore.pairs s.store.now) s.position (g.met.S.BucketStore.in_range s.store.now) c.in_ok-index.ensures in
     omega (arith, ints)
 
 pub invariant_of-self : goal.invariant_of-self
 invariant_of-self g c =
     let s = c.self.inside in
-    let r = pair_ranges (g.S.BucketStore.pairs s.store.now) s.position (c.in_ok-index.index, c.in_ok-index.count) (g.met.S.BucketStore.in_range s.store.now) (sym c.in_ok-index.ensures) in
+    let r = pair_ranges (g.S.BucketStore.pairs s.store.now) s.position (g.met.S.BucketStore.in_range s.store.now) c.in_ok-index.ensures in
     record { low = omega (arith, ints); high = omega (arith, ints) }
 
 pub returns-then-gap-le-SHORT_GAP-clause-steps : goal.returns-then-gap-le-SHORT_GAP-clause-steps
@@ -29,7 +29,7 @@ returns-then-gap-le-SHORT_GAP-clause-steps g c =
     let s = c.self.inside in
     let ps = g.S.BucketStore.pairs s.store.now in
     let at = sym c.in_ok-index.ensures in
-    let r = pair_ranges ps s.position (c.in_ok-index.index, c.in_ok-index.count) (g.met.S.BucketStore.in_range s.store.now) at in
+    let r = pair_ranges ps s.position (g.met.S.BucketStore.in_range s.store.now) c.in_ok-index.ensures in
     let t : gap c.in_ok-index.index s.next ≤ℤ pos 2 = omega (arith, ints) in
     let short = gap_short c.in_ok-index.index s.next r c.self.invariant.low c.self.invariant.high c.if-gap-gt0.true (T_true _ t.le) in
     sym c.self.view_is ∙ lists_zero ps s.position s.next c.self.invariant.low c.self.invariant.high _ _ r at short
@@ -49,13 +49,13 @@ overflow_add-self-2 g c =
 pub overflow_add-self-3 : goal.overflow_add-self-3
 overflow_add-self-3 g c =
     let s = c.self.inside in
-    let r = pair_ranges (g.S.BucketStore.pairs s.store.now) s.position (c.in_ok-index.index, c.in_ok-index.count) (g.met.S.BucketStore.in_range s.store.now) (sym c.in_ok-index.ensures) in
+    let r = pair_ranges (g.S.BucketStore.pairs s.store.now) s.position (g.met.S.BucketStore.in_range s.store.now) c.in_ok-index.ensures in
     omega (arith, ints)
 
 pub invariant_of-self-2 : goal.invariant_of-self-2
 invariant_of-self-2 g c =
     let s = c.self.inside in
-    let r = pair_ranges (g.S.BucketStore.pairs s.store.now) s.position (c.in_ok-index.index, c.in_ok-index.count) (g.met.S.BucketStore.in_range s.store.now) (sym c.in_ok-index.ensures) in
+    let r = pair_ranges (g.S.BucketStore.pairs s.store.now) s.position (g.met.S.BucketStore.in_range s.store.now) c.in_ok-index.ensures in
     record { low = omega (arith, ints); high = omega (arith, ints) }
 
 pub returns-clause-steps : goal.returns-clause-steps
@@ -65,7 +65,7 @@ returns-clause-steps g c =
     let at = sym c.in_ok-index.ensures in
     let low = c.self.invariant.low in
     let high = c.self.invariant.high in
-    let r = pair_ranges ps s.position (c.in_ok-index.index, c.in_ok-index.count) (g.met.S.BucketStore.in_range s.store.now) at in
+    let r = pair_ranges ps s.position (g.met.S.BucketStore.in_range s.store.now) c.in_ok-index.ensures in
     let i = c.in_ok-index.index in
     let apart : (i ≡ s.next +ℤ pos 1 → ⊥) × (i ≡ s.next +ℤ pos 2 → ⊥) =
     elim c.else-gap-gt0.branch [
