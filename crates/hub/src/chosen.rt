@@ -52,6 +52,7 @@ impl Buckets {
     }
 }
 
+// Each method is that of the store held.
 impl BucketStore for Buckets {
     ghost pairs = { pairs_in };
 

@@ -126,6 +126,7 @@ impl Plug {
     fn add(&mut self, side: Side, index: i32) -> Result<(), StoreFault>
         ensures { Adds self.old side index result self.new }
     {
+        // Two arms are plainer here than a method that lends one of the two fields to this one caller.
         match side {
             Side::Positive => self.positive.add(index)?,
             Side::Negative => self.negative.add(index)?,

@@ -6,7 +6,8 @@ use schema::{Schema, SchemaFault};
 use std::alloc::{AllocError, Global};
 use thiserror::Error;
 
-// What a line of the log says.
+// What a line of the log says. A line that says nothing is one of four kinds, matched beside the others, so it is
+// a case here and no Option around the rest.
 #[derive(Drop)]
 pub enum Entry<'a> {
     // it is blank or a comment

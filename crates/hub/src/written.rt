@@ -8,7 +8,7 @@ use std::alloc::{AllocError, Global};
 use std::fmt;
 use store::BucketStore;
 
-// Spans (offset, length) and deltas.
+// Spans (offset, length) and deltas: two lists, as the crate `span` writes and reads them.
 #[derive(Drop)]
 pub struct Written {
     pub spans: Vec<(i32, u32)>,
