@@ -6,3 +6,4 @@ pub mod Laying
 pub mod Unread
 pub mod Checks
 pub mod Back
+pub mod Road

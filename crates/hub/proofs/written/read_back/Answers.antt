@@ -1,22 +1,18 @@
-use Rattle.std.proofs.Common.{◌≡◌, length, ℤ, ℕ, List, IfOk, Result, vec_items, Vec, sym, ap, ◌∙◌, rules}
+use Rattle.std.proofs.Common.{◌≡◌, ℤ, ℕ, List, IfOk, Result, vec_items, Vec, sym, ap, ◌∙◌, rules}
 use Rattle.std.specs.declared.alloc.Global.{Global}
 use Rattle.std.specs.declared.alloc.AllocError.{AllocError}
-use Rattle.std.proofs.lemmas.Iterator.{IsCollectResult, YieldsList, items_from_collect}
-use Rattle.std.proofs.lemmas.Iterator.Consumers.{YieldsList-from_shown}
+use Rattle.std.proofs.lemmas.Iterator.{IsCollectResult, items_from_collect}
 use Rattle.span.specs.declared.reader.BucketReader.{BucketReader}
 use Rattle.span.specs.Spans.{Spans}
 use Rattle.span.specs.Reading.{read_pairs, open_refusal}
 use Rattle.span.specs.Readers.{reader_pairs, Gives, Opens}
+use Rattle.span.proofs.Road.{reader_road}
 use Rattle.hub.specs.declared.written.Written.{Written}
 use Rattle.hub.specs.Forms.{GivesBack}
 use Rattle.hub.proofs.written.read_back.Goals as goal
 
--- a reader yields its pairs
-yields_pairs : (r : BucketReader) → YieldsList (Gives reader_pairs) (λ x. x) r (reader_pairs r)
-yields_pairs = YieldsList-from_shown (Gives reader_pairs) (λ x. x) reader_pairs (λ s t g. ap length g.0) (λ s x t g. g)
-
 collected : (o : Result (Vec (ℤ × ℕ) Global) AllocError) (r : BucketReader) → IsCollectResult (Gives reader_pairs) r o → IfOk o (λ v. vec_items v ≡ reader_pairs r)
-collected o r h = items_from_collect o h (yields_pairs r)
+collected o r h = items_from_collect o h (reader_road r)
 
 gives_back : (w : Written) (ss : Spans) (ds : List ℤ) (v : Vec (ℤ × ℕ) Global) (r : BucketReader) → ss ≡ vec_items w.spans → ds ≡ vec_items w.deltas → Opens ss ds r → vec_items v ≡ reader_pairs r → GivesBack w v
 gives_back w ss ds v r es ed o e = record {
