@@ -5,7 +5,6 @@ use borrow.Author.Tests.{clash}
 use Rattle.std.specs.Option.{MatchOption}
 use Rattle.std.proofs.lemmas.Int.{ints}
 use Rattle.std.proofs.lemmas.Grind.{common_steps}
-use Rattle.index.specs.Index.{in_index_range}
 use Rattle.store.specs.Pairs.{Pairs, Means, counted, ranged, total, pair_at}
 use Rattle.store.proofs.Bounds.{counted_first, counted_tail}
 use Rattle.store.proofs.Range.{ranged_tail}
@@ -15,9 +14,6 @@ use Rattle.span.specs.Spans.{filled, filled_from, ahead}
 pub record Ranges (i : ℤ) : Type 0 where
   pub low : negsuc 274943 ≤ℤ i
   pub high : i ≤ℤ pos 262145
-
-pub ranges : (i : ℤ) → T (in_index_range i) → Ranges i
-ranges i t = record { low = grind (arith, ints); high = grind (arith, ints) }
 
 -- a pair that stands at a position
 pub pair_ranges : (ps : Pairs) (k : ℕ) {p : ℤ × ℕ} → T (ranged ps) → Some p ≡ pair_at ps k → Ranges p.0
@@ -30,7 +26,7 @@ pair_within [] k p e = grind arith
 pair_within (q ∷ qs) zero p e = omega arith
 pair_within (q ∷ qs) (suc k) p e = omega (arith, pair_within qs k p e)
 
-pub length_in_total : (ps : Pairs) → T (counted ps) → length ps ≤ total ps
+length_in_total : (ps : Pairs) → T (counted ps) → length ps ≤ total ps
 length_in_total [] t = omega arith
 length_in_total (p ∷ ps) t = omega (arith, counted_first p ps t, length_in_total ps (counted_tail p ps t))
 
@@ -38,12 +34,12 @@ pub few_pairs : (ps : Pairs) → Means ps → length ps < 2 ^ 64
 few_pairs ps m = omega (arith, length_in_total ps m.counts, m.bounded)
 
 -- what is listed from a position on
-pub drop_pair : (ps : Pairs) (k : ℕ) (p : ℤ × ℕ) → pair_at ps k ≡ Some p → drop k ps ≡ p ∷ drop (k + 1) ps
+drop_pair : (ps : Pairs) (k : ℕ) (p : ℤ × ℕ) → pair_at ps k ≡ Some p → drop k ps ≡ p ∷ drop (k + 1) ps
 drop_pair [] k p e = grind arith
 drop_pair (q ∷ qs) zero p e = grind arith
 drop_pair (q ∷ qs) (suc k) p e = grind (arith, common_steps, drop_pair qs k p)
 
-pub drop_none : (ps : Pairs) (k : ℕ) → pair_at ps k ≡ None → drop k ps ≡ []
+drop_none : (ps : Pairs) (k : ℕ) → pair_at ps k ≡ None → drop k ps ≡ []
 drop_none [] zero e = refl
 drop_none [] (suc k) e = refl
 drop_none (q ∷ qs) zero e = grind arith
@@ -89,7 +85,7 @@ abbrev pub gap : ℤ → ℤ → ℤ
 gap i next = to_z w32 (of_z w32 (to_z w32 (of_z w32 i) -ℤ to_z w32 (of_z w32 next)))
 
 module _ (i next : ℤ) (r : Ranges i) (low : negsuc 274943 ≤ℤ next) (high : next ≤ℤ pos 262146) where
-  pub gap_is : gap i next ≡ i -ℤ next
+  gap_is : gap i next ≡ i -ℤ next
   gap_is = let a = r.low in let b = r.high in omega (arith, ints)
 
   pub gap_short : lt_z (pos 0) (gap i next) ≡ true → le_z (gap i next) (pos 2) ≡ true → (i ≡ next +ℤ pos 1) ⊎ (i ≡ next +ℤ pos 2)

@@ -55,6 +55,7 @@ pub fn write<S: BucketStore>(
 }
 
 // Fills buffers that are long enough.
+// It walks as `measure` does, which stops at a refusal: one walk over a closure would be longer than the two.
 fn fill<S: BucketStore>(store: &S, spans: &mut [(i32, u32)], deltas: &mut [i64])
     requires { write_refusal (S.BucketStore.pairs store.now) (length spans.old) (length deltas.old) ≡ None }
     ensures { Laid (S.BucketStore.pairs store.now) spans.old deltas.old spans.new deltas.new }
