@@ -37,6 +37,7 @@ fn adds<S: BucketStore, F: Fn(&mut S)>(store: &mut S, indices: &[i32], rounds: u
     accepted.wrapping_add(checksum(store))
 }
 
+// Four functions, since C calls no generic one.
 #[unsafe(no_mangle)]
 pub extern "C" fn row_adds(indices: &[i32], rounds: u32) -> u64 {
     adds(&mut Row::new(), indices, rounds, |_| {})

@@ -54,6 +54,7 @@ pub struct Failure {
     place: Place,
 }
 
+// By hand, as the place is printed in two parts.
 impl fmt::Display for Failure {
     fn fmt<W: fmt::Write>(&self, f: &mut fmt::Formatter<W>) -> fmt::Result {
         let Place { value, index } = self.place;

@@ -18,7 +18,7 @@ fn well_parted(value: f64) -> bool {
         return fraction == 0.0 && exponent == 0;
     }
     let rebuilt = fraction * 2.0 * power_of_two(exponent.wrapping_sub(1));
-    0.5 <= fraction && fraction < 1.0 && rebuilt == value && frexp(-value) == (fraction, exponent)
+    (0.5..1.0).contains(&fraction) && rebuilt == value && frexp(-value) == (fraction, exponent)
 }
 
 // Checks a number above zero.
@@ -42,7 +42,8 @@ pub fn number(checks: &mut Checks, value: f64) {
     }
 }
 
-// The power of two that the bound of an index is, if it is one.
+// The power of two that the bound of an index is, if it is one: by the sign of the schema's number, apart from the way
+// that the library tells its two layouts.
 fn power(schema: Schema, index: i32) -> Option<i32> {
     let value = schema.value();
     if value < 0 {

@@ -34,11 +34,11 @@ fn try_schema(schema: Schema) -> Checks {
 }
 
 fn main(rt: HostRuntime) -> io::Result<()> {
-    // all schemas, and names that are none
-    for name in (-4..=8).chain([i8::MIN, -5, 9, i8::MAX]) {
-        match Schema::new(name) {
-            Ok(schema) => println!(rt; "schema {name}: {}", try_schema(schema))?,
-            Err(fault) => println!(rt; "schema {name}: refusal {}", fault.number())?,
+    // all schemas, and numbers of none; a refusal is printed by its published number
+    for value in (-4..=8).chain([i8::MIN, -5, 9, i8::MAX]) {
+        match Schema::new(value) {
+            Ok(schema) => println!(rt; "schema {value}: {}", try_schema(schema))?,
+            Err(fault) => println!(rt; "schema {value}: refusal {}", fault.number())?,
         }
     }
     Ok(())

@@ -36,6 +36,7 @@ impl Parts {
         } else {
             Parts {
                 mantissa: digits + LEADING_DIGIT,
+                // `as`, since no `From` leads to a narrower type; the field has eleven digits
                 shift: (field - 1) as u32,
             }
         }
@@ -56,7 +57,7 @@ impl Parts {
         f64::from_bits((1021 << 52) + (self.mantissa << (53 - self.digits())))
     }
 
-    // The power of two that the fraction is times, to make the magnitude.
+    // The power of two that the fraction is times, to make the magnitude. `as` changes the sign's type alone.
     fn exponent(self) -> i32
         ensures value { result ≡ pos (self.shift + size self.mantissa) -ℤ pos 1074 }
         ensures range { (negsuc 1073 ≤ℤ result) × (result ≤ℤ pos 1024) }
@@ -66,7 +67,7 @@ impl Parts {
 }
 
 // The magnitude of v as fraction × 2^exponent, exactly, the fraction at least 0.5 and below 1, subnormals included.
-// (0, 0) for zero, an infinity and a NaN.
+// (0, 0) for zero, an infinity and a NaN, and no `Option`: it is published so, and cannot fail.
 pub fn frexp(v: f64) -> (f64, i32)
     ensures value { result ≡ (fraction v, exponent v) }
     ensures splits { T (finite_nonzero v) → Splits v result.0 result.1 }

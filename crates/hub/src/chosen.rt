@@ -14,6 +14,7 @@ pub enum StoreKind {
     Run,
 }
 
+// By hand: two words, for which no derive is shorter.
 impl fmt::Display for StoreKind {
     fn fmt<W: fmt::Write>(&self, f: &mut fmt::Formatter<W>) -> fmt::Result {
         match self {
@@ -52,7 +53,7 @@ impl Buckets {
     }
 }
 
-// Each method is that of the store held.
+// Each method is that of the store held: which one is known only while the program runs, and an arm is one call.
 impl BucketStore for Buckets {
     ghost pairs = { pairs_in };
 

@@ -29,6 +29,7 @@ impl Side {
     }
 }
 
+// By hand: two words, for which no derive is shorter.
 impl fmt::Display for Side {
     fn fmt<W: fmt::Write>(&self, f: &mut fmt::Formatter<W>) -> fmt::Result {
         match self {
@@ -47,6 +48,7 @@ pub enum Filed {
     NotANumber,
 }
 
+// By hand, since it is no error, and only those are derived.
 impl fmt::Display for Filed {
     fn fmt<W: fmt::Write>(&self, f: &mut fmt::Formatter<W>) -> fmt::Result {
         match self {

@@ -8,6 +8,7 @@ use store::StoreFault;
 
 #[derive(Drop)]
 pub struct Hub {
+    heap: Global,
     pub(crate) plugs: BTreeMap<String, Plug>,
 }
 
@@ -15,6 +16,7 @@ impl Hub {
     // A hub that knows no plug.
     pub fn new(heap: Global) -> Hub {
         Hub {
+            heap,
             plugs: BTreeMap::new(heap),
         }
     }
@@ -25,13 +27,8 @@ impl Hub {
     }
 
     // Gives the name a plug with no readings.
-    pub fn declare(
-        &mut self,
-        heap: Global,
-        name: &str,
-        settings: Settings,
-    ) -> Result<(), AllocError> {
-        let key = String::from_str(heap, name)?;
+    pub fn declare(&mut self, name: &str, settings: Settings) -> Result<(), AllocError> {
+        let key = String::from_str(self.heap, name)?;
         self.plugs.insert(key, Plug::new(settings))?;
         Ok(())
     }

@@ -29,8 +29,9 @@ hub reads a log of inrush currents from standard input and says what it did. A l
   # TEXT                           a comment, which may end any line
 ";
 
+// `rt`, the leave to print, goes through the calls beside the hub, as such leaves do.
 fn declare(rt: &HostRuntime, hub: &mut Hub, name: &str, settings: Settings) -> io::Result<()> {
-    hub.declare(rt.alloc(), name, settings)?;
+    hub.declare(name, settings)?;
     println!(rt; "{name}: {settings}")
 }
 

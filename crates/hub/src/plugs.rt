@@ -14,7 +14,7 @@ pub struct Settings {
     pub schema: Schema,
 }
 
-// What a plug that names none keeps: rows, and eight buckets in each octave.
+// The settings of a plug whose line names none: a row, and eight buckets in each octave.
 impl Default for Settings {
     ghost use Rattle.std.specs.Prelude.{pos};
     ghost use Rattle.hub.specs.declared.chosen.StoreKind.TheVariants.{Row};

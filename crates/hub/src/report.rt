@@ -12,7 +12,8 @@ use std::io;
 // How wide the bar of the highest count is.
 const WIDEST: u8 = 40;
 
-// How wide the bar of a count is where the highest is `most`: its share of 40, rounded up.
+// How wide the bar of a count is where the highest is `most`: its share of 40, rounded up. `as`, since a share is at most
+// 40.
 fn bar_width(count: u64, most: u64) -> usize
     ensures width { result ≡ (if nat_lt count most then div_ceil (count * 40) most else 40) }
     ensures fits { result ≤ 40 }

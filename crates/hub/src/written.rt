@@ -15,7 +15,7 @@ pub struct Written {
     pub deltas: Vec<i64>,
 }
 
-// As the log has them.
+// The words of a line of the log.
 impl fmt::Display for Written {
     fn fmt<W: fmt::Write>(&self, f: &mut fmt::Formatter<W>) -> fmt::Result {
         write!(f, "spans")?;

@@ -16,7 +16,8 @@ impl Row {
     pub fn search(&self, index: i32) -> Result<usize, usize>
         ensures { result ≡ sought index (row_pairs self.now) }
     {
-        // By hand, since with `binary_search_by_key` an add takes about a fifth longer, and three times as long where the indices come in order.
+        // By hand, since with `binary_search_by_key` an add takes about a fifth longer, and three times as long where listed
+        // indices come in an order that repeats.
         let mut low = 0;
         let mut high = self.size;
         while low < high {

@@ -23,7 +23,7 @@ impl OctaveTable {
     }
 
     // The octave of an index and its place there: the index divided by the number of buckets, and the rest.
-    // A pair, since the one caller takes it apart at once.
+    // A pair, since the one caller takes it apart at once. `as`, since no `From` leads from `i32` to `usize`.
     fn octave(self, index: i32) -> (i32, usize)
         ensures octave { result.0 ≡ quotient (2 ^ self.schema) index }
         ensures place { result.1 ≡ remainder (2 ^ self.schema) index }

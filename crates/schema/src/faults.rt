@@ -24,6 +24,7 @@ impl SchemaFault {
     }
 }
 
+// By hand, as the faults of the other crates.
 impl fmt::Display for SchemaFault {
     fn fmt<W: fmt::Write>(&self, f: &mut fmt::Formatter<W>) -> fmt::Result {
         let rule = match self {

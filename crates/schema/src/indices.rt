@@ -12,6 +12,7 @@ use double::frexp;
 
 impl OctaveTable {
     // The index of v: its octave, and the bucket of its fraction there, by a binary search of the table.
+    // `as`, since no `From` leads from `usize` to `i32`; a place is at most 256.
     fn index(self, v: f64) -> i32
         requires { T (finite_nonzero v) }
         ensures value { result ≡ table_index self.schema v }
@@ -36,7 +37,8 @@ impl WideBuckets {
     }
 }
 
-// The index of a finite number other than zero.
+// The index of a finite number other than zero. A type for such numbers would be made at each of the four calls, and
+// taken apart in each layout.
 pub(crate) fn finite_index(schema: Schema, v: f64) -> i32
     requires { T (finite_nonzero v) }
     ensures value { result ≡ finite_index schema.value v }

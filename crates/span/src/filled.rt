@@ -53,6 +53,7 @@ impl<S: BucketStore> Iterator for Filled<'_, S> {
     fn next(&mut self) -> Option<(i32, u64)> {
         let (index, count) = self.store.pair(self.position)?;
         let gap = index - self.next;
+        // two comparisons, since each turns away gaps of its own: none, and the long ones
         if 0 < gap && gap <= SHORT_GAP {
             let filler = (self.next, 0);
             self.next += 1;

@@ -95,7 +95,7 @@ fn in_range(index: i64) -> bool
     i32::try_from(index).is_ok_and(index::in_index_range)
 }
 
-// Whether every count is from 0 to 2^63 - 1.
+// Whether every count is from 0 to 2^63 - 1. `as`, since no slice is so long that the number would not fit.
 fn check_counts(deltas: &[i64]) -> Result<(), SpanFault>
     ensures { fault_of result ≡ counts_refusal 0 (pos 0) deltas.now }
 {

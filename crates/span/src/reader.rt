@@ -9,7 +9,7 @@ pub struct NativeHistogramBuckets<'a> {
 }
 
 // What is left to read; only `NativeHistogramBuckets::read` makes one.
-// Callers copy it, so it holds slices, and no iterators over them.
+// It is `Copy`, so it holds slices: an iterator over one is not.
 #[derive(Clone, Copy)]
 pub struct BucketReader<'a> {
     // the spans not begun yet

@@ -45,6 +45,7 @@ impl Iterator for BucketReader<'_> {
 
     ghost remaining = { item_count reader_pairs };
 
+    // No `find`, which would call `next`.
     fn next(&mut self) -> Option<(i32, u64)> {
         while let Some(bucket) = self.next_bucket() {
             if bucket.1 > 0 {

@@ -6,7 +6,7 @@ use crate::faults::WriteFault;
 use crate::filled::Filled;
 use store::BucketStore;
 
-// The largest count that a delta can lead to: 2^63 - 1.
+// The largest count that a delta can lead to: 2^63 - 1. `as`, since a constant calls no function.
 const LARGEST_COUNT: u64 = i64::MAX as u64;
 
 // How many spans and how many deltas pairs are written as.
@@ -35,7 +35,8 @@ pub fn measure<S: BucketStore>(store: &S) -> Result<Lengths, WriteFault>
     Ok(lengths)
 }
 
-// Writes the pairs of the store as spans and deltas to the start of two buffers.
+// Writes the pairs of the store as spans and deltas to the start of two buffers, which are the caller's: the writer has
+// no heap.
 pub fn write<S: BucketStore>(
     store: &S,
     spans: &mut [(i32, u32)],
@@ -65,6 +66,7 @@ fn fill<S: BucketStore>(store: &S, spans: &mut [(i32, u32)], deltas: &mut [i64])
     let mut end = None;
     let mut previous = 0;
     for (index, count) in Filled::new(store) {
+        // `as`, since `measure` has found no count above 2^63 - 1
         let count = count as i64;
         deltas[written.deltas] = count - previous;
         written.deltas += 1;

@@ -21,8 +21,8 @@ pub enum Answer {
     Refused(StoreFault),
 }
 
-// Makes the call of a store.
-pub fn made<S: BucketStore>(store: &mut S, call: Call) -> Answer {
+// Makes the call of a store. Calls are values, since each is made of two, compared and printed.
+pub fn make<S: BucketStore>(store: &mut S, call: Call) -> Answer {
     match call {
         Call::Size => Answer::Size(store.size()),
         Call::Pair(position) => Answer::Pair(store.pair(position)),

@@ -24,7 +24,7 @@ impl Indices {
     }
 }
 
-// A number below the limit.
+// A number below the limit. `as`, since a remainder is below what it is of.
 pub(crate) fn below(random: &mut Random, limit: u32) -> u32
     requires { 0 < limit }
     ensures { result < limit }

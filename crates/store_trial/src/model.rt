@@ -24,7 +24,7 @@ pub struct Model {
     rule: Rule,
 }
 
-// Half the index, rounded up.
+// Half the index, rounded up. `as`, since half of it fits again.
 fn half(index: i32) -> i32
     ensures { Halves index result }
 {
@@ -90,7 +90,7 @@ impl Model {
             .map(|(index, count)| (*index, *count))
     }
 
-    // What a store that does as the model does answers to the call.
+    // What a store that does as the model does answers to the call, case by case as the store is called.
     pub fn answer(&mut self, call: Call) -> Result<Answer, AllocError> {
         match call {
             Call::Size => Ok(Answer::Size(self.size())),

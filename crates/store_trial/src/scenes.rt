@@ -104,8 +104,8 @@ fn brim<S: BucketStore>(trial: &mut Trial<S>) -> Result<(), Trouble> {
     trial.compare_all()
 }
 
-// Adds all indices from the lowest to the highest, and then from the highest to the lowest.
-fn filled<S: BucketStore, F: Fn(&mut Trial<S>) -> Result<(), Trouble>>(
+// Fills an empty store from the lowest index up, looks, and halves; then fills it from the highest down, looks, and empties it.
+fn fill_both_ways<S: BucketStore, F: Fn(&mut Trial<S>) -> Result<(), Trouble>>(
     trial: &mut Trial<S>,
     lowest: i32,
     highest: i32,
@@ -127,7 +127,7 @@ fn filled<S: BucketStore, F: Fn(&mut Trial<S>) -> Result<(), Trouble>>(
 
 // A row filled from either end.
 pub fn row<S: BucketStore>(trial: &mut Trial<S>) -> Result<(), Trouble> {
-    filled(trial, -160, 159, brim)
+    fill_both_ways(trial, -160, 159, brim)
 }
 
 // A run of the 512 indices from -200 to 311: no room on either side, until the lowest leaves.
@@ -167,7 +167,7 @@ fn reach<S: BucketStore>(trial: &mut Trial<S>, index: i32) -> Result<(), Trouble
 
 // A run's window filled from either end, and moved along.
 pub fn run<S: BucketStore>(trial: &mut Trial<S>) -> Result<(), Trouble> {
-    filled(trial, -200, 311, window)?;
+    fill_both_ways(trial, -200, 311, window)?;
     for index in [-274_432, -512, -511, -1, 0, 1, 261_632] {
         reach(trial, index)?;
     }

@@ -1,5 +1,5 @@
 // A store beside its model: each call is made of both, and the answers compared.
-use crate::calls::{Answer, Call, made};
+use crate::calls::{Answer, Call, make};
 use crate::model::{Model, Rule};
 use std::alloc::{AllocError, Global};
 use store::{BucketStore, StoreFault};
@@ -80,7 +80,7 @@ impl<S: BucketStore> Trial<S> {
 
     // Makes a call of both, and answers what both answer.
     pub fn call(&mut self, call: Call) -> Result<Answer, Trouble> {
-        let answer = made(&mut self.store, call);
+        let answer = make(&mut self.store, call);
         let expected = self.model.answer(call)?;
         self.tally.count(call, answer);
         self.compare(call, answer, expected)?;

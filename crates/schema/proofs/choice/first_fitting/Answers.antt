@@ -8,13 +8,6 @@ use Rattle.schema.proofs.choice.first_fitting.Goals as goal
 pub loop-value-init : goal.loop-value-init
 loop-value-init c = record { low = search rules; high = search rules; rest = begins c.args.factor }
 
-pub returns-then-positive_upper_bound-factor : goal.returns-then-positive_upper_bound-factor
-returns-then-positive_upper_bound-factor c =
-    let s = to_z w8 c.loop-value.value-bits in
-    let f = c.args.factor in
-    let l : s <ℤ pos 8 = record { lt = T_from_true _ c.loop-value-test.true } in
-    sym (c.loop-value.invariant.rest ∙ found_here s f l (ap (λ (x : Float). le x f) (sym c.positive_upper_bound.ensures.value) ∙ c.if-positive_upper_bound-factor.true))
-
 pub loop-value-preserved : goal.loop-value-preserved
 loop-value-preserved c =
     let s = to_z w8 c.loop-value.value-bits in
@@ -26,8 +19,3 @@ loop-value-preserved c =
       high = omega (arith, ints);
       rest = c.loop-value.invariant.rest ∙ found_later s f l (ap (λ (x : Float). le x f) (sym c.positive_upper_bound.ensures.value) ∙ c.if-positive_upper_bound-factor.false) ∙ ap (λ (z : ℤ). fitting_from z f) e;
     }
-
-pub returns : goal.returns
-returns c =
-    let e : to_z w8 c.loop-value.value-bits ≡ pos 8 = grind (arith, ints) in
-    sym (c.loop-value.invariant.rest ∙ ap (λ (z : ℤ). fitting_from z c.args.factor) e)
