@@ -1,4 +1,5 @@
-// What is checked of a schema: of a number, of a bound and of the schema's ends.
+// What is checked of a schema: of a number, of a bound and of the schema's ends. Functions, apart from the methods of
+// `Checks`, which only counts.
 use crate::checks::{Checks, Law, Place};
 use crate::numbers::power_of_two;
 use double::frexp;

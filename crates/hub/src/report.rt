@@ -42,6 +42,7 @@ pub fn print_chart(
     pairs: &[(i32, u64)],
 ) -> io::Result<()> {
     let most = highest_count(pairs);
+    // in other words than a reading's answer has
     let reach = match side {
         Side::Positive => "up to ",
         Side::Negative => "down to -",

@@ -45,6 +45,7 @@ impl BucketStore for Row {
     }
 
     fn add(&mut self, index: i32) -> Result<(), StoreFault> {
+        // Range and total are tested as a run tests them, each by its own fields.
         if !in_index_range(index) {
             return Err(StoreFault::OutOfRange(index));
         }

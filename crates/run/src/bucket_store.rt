@@ -42,7 +42,7 @@ impl Run {
         (Position { at }.index(), self.counter(at))
     }
 
-    // Refuses an index that cannot be added.
+    // Refuses an index that cannot be added. Range and total are tested as a row tests them, each by its own fields.
     fn check(&self, index: i32) -> Result<(), StoreFault>
         ensures { told (result_err result) ≡ add_refusal (pairs_of self.now) (room_of self.now) index }
     {

@@ -37,7 +37,8 @@ impl WideBuckets {
     }
 }
 
-// The index of a finite number other than zero. A type for such numbers would be made at each of the four calls, and
+// The index of a finite number other than zero. The ends of its range are written out, since sums of it are bounded by
+// them; a table's are narrower. A type for such numbers would be made at each of the four calls, and
 // taken apart in each layout.
 pub(crate) fn finite_index(schema: Schema, v: f64) -> i32
     requires { T (finite_nonzero v) }

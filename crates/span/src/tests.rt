@@ -6,7 +6,7 @@ const FAR_BACK: i64 = i64::MIN;
 
 const FAR_ON: i64 = i64::MAX;
 
-// Spans and deltas that the reader refuses with this number and place.
+// Spans and deltas that the reader refuses with this number and place, which are the published ones.
 fn refused<'x>(
     rt: &impl Abort,
     spans: &'x [(i32, u32)],

@@ -18,6 +18,7 @@ pub enum Answer {
     Size(usize),
     Pair(Option<(i32, u64)>),
     Room(bool),
+    // no `Result` beside `Done`, which two other calls answer too
     Refused(StoreFault),
 }
 

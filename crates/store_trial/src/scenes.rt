@@ -1,4 +1,5 @@
-// What is tried of every store, and of each kind: chosen calls with their answers, and random ones.
+// What is tried of every store, and of each kind: chosen calls with their answers, and random ones. Functions, apart from
+// the methods of `Trial`, which only calls and compares.
 use crate::calls::{Answer, Call};
 use crate::indices::{Indices, below};
 use crate::trial::{Trial, Trouble};
