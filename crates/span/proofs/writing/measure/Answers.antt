@@ -11,13 +11,6 @@ pub loop-index-init : goal.loop-index-init
 loop-index-init g c =
     seen_none (g.S.BucketStore.pairs c.args.store.now) _ _ (c.into_iter-index-iterator.ensures.into_iter_gives ∙ c.new-index-items.ensures) (search rules) (search rules)
 
-pub returns-then-count-gt-LARGEST_COUNT : goal.returns-then-count-gt-LARGEST_COUNT
-returns-then-count-gt-LARGEST_COUNT g c =
-    let met = g.met.S.BucketStore in
-    let e = c.in-Some.ensures.steps in
-    let p = seen_place c.loop-index.invariant e (met.means c.args.store.now) (met.in_range c.args.store.now) in
-    too_large c.loop-index.invariant e (omega arith) ∙ ap (λ i. Some (10, i)) (sym (index_is p))
-
 pub overflow_add-lengths : goal.overflow_add-lengths
 overflow_add-lengths g c =
     let met = g.met.S.BucketStore in
