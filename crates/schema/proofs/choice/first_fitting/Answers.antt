@@ -2,7 +2,7 @@ use Rattle.std.proofs.Common.{◌≡◌, ℤ, pos, ◌+ℤ◌, ◌<ℤ◌, sym, 
 use borrow.Author.Differences.{ints}
 use lib.Ieee.{Float, le}
 use Rattle.std.proofs.lemmas.Float.{T_from_true}
-use Rattle.schema.proofs.Fitting.{fitting_from, found_here, found_later, begins}
+use Rattle.schema.proofs.Fitting.{fitting_from, found_later, begins}
 use Rattle.schema.proofs.choice.first_fitting.Goals as goal
 
 pub loop-value-init : goal.loop-value-init

@@ -1,9 +1,9 @@
-use Rattle.std.proofs.Common.{length, Some, sym, ap, ◌∙◌, arith, rules}
+use Rattle.std.proofs.Common.{length, sym, ap, ◌∙◌, arith, rules}
 use Rattle.std.proofs.lemmas.Int.{ints}
 use Rattle.std.proofs.lemmas.Bool.{not-true, not-false}
 use Rattle.span.specs.Spans.{filled, runs}
 use Rattle.span.proofs.Steps.{length_differences}
-use Rattle.span.proofs.Seen.{seen_none, too_large, seen_place, seen_few, index_is, after_is, starts, joins, spans_new, spans_same, seen_more, seen_all, seen_allowed}
+use Rattle.span.proofs.Seen.{seen_none, seen_place, seen_few, after_is, starts, joins, spans_new, spans_same, seen_more, seen_all, seen_allowed}
 use Rattle.span.proofs.writing.measure.Goals as goal
 use Rattle.span.proofs.writing.measure.Goals.{then-ne, else-ne}
 
