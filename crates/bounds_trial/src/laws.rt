@@ -43,8 +43,8 @@ pub fn number(checks: &mut Checks, value: f64) {
     }
 }
 
-// The power of two that the bound of an index is, if it is one: by the sign of the schema's number, apart from the way
-// that the library tells its two layouts.
+// The power of two that the bound of an index is, if it is one: by the sign of the schema's number, since the library's
+// layouts are private to it.
 fn power(schema: Schema, index: i32) -> Option<i32> {
     let value = schema.value();
     if value < 0 {

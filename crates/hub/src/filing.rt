@@ -48,7 +48,7 @@ pub enum Filed {
     NotANumber,
 }
 
-// By hand, since it is no error, and only those are derived.
+// By hand, since it is no error, and only those are derived. A bar's bound stands in other words.
 impl fmt::Display for Filed {
     fn fmt<W: fmt::Write>(&self, f: &mut fmt::Formatter<W>) -> fmt::Result {
         match self {

@@ -29,7 +29,7 @@ hub reads a log of inrush currents from standard input and says what it did. A l
   # TEXT                           a comment, which may end any line
 ";
 
-// `rt`, the leave to print, goes through the calls beside the hub, as such leaves do.
+// `rt`, the handle that permits printing, goes through the calls beside the hub, as handles do.
 fn declare(rt: &HostRuntime, hub: &mut Hub, name: &str, settings: Settings) -> io::Result<()> {
     hub.declare(name, settings)?;
     println!(rt; "{name}: {settings}")

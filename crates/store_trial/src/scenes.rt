@@ -175,7 +175,7 @@ pub fn run<S: BucketStore>(trial: &mut Trial<S>) -> Result<(), Trouble> {
     Ok(())
 }
 
-// A random call: mostly an add of one of the indices.
+// A random call: mostly an add of one of the indices. `as`, since no `From` leads from `u32` to `usize`.
 fn random_call(random: &mut Random, indices: Indices) -> Call {
     let index = indices.pick(random);
     match below(random, 2000) {
