@@ -1,8 +1,9 @@
 -- What a row keeps, from what it lists.
-use Rattle.std.proofs.Common.{◌≡◌, ℕ, zero, suc, ◌+◌, ◌^◌, ◌<◌, ◌≤◌, T, [], ◌∷◌, length, get_or, slice_get, take, ℤ, sym, refl, ap, ◌∙◌, subst, arith, rules}
-use Rattle.std.proofs.lemmas.List.{length-take-le}
+use Rattle.std.proofs.Common.{◌≡◌, ℕ, zero, suc, ◌+◌, ◌^◌, ◌<◌, ◌≤◌, T, [], ◌∷◌, length, get_or, slice_get, take, ℤ, Some, sym, refl, ap, ◌∙◌, subst, arith, rules}
+use Rattle.std.proofs.lemmas.List.{length-take-le, get_or-take}
 use Rattle.index.specs.Index.{in_index_range}
 use Rattle.store.specs.Pairs.{Pairs, rising, counted, ranged, total, Means, pair_at, without_lowest}
+use Rattle.store.proofs.Parts.{pair_at_in}
 use Rattle.row.specs.declared.Row.{Row}
 use Rattle.row.specs.Rows.{row_pairs}
 
@@ -27,6 +28,10 @@ pub pair_at_get : (ps : Pairs) (k : ℕ) → slice_get ps k ≡ pair_at ps k
 pair_at_get [] k = refl
 pair_at_get (p ∷ ps) zero = refl
 pair_at_get (p ∷ ps) (suc k) = pair_at_get ps k
+
+-- the pair at a position
+pub row_pair : (r : Row) (k : ℕ) (d : ℤ × ℕ) → k < r.size → Some (get_or r.pairs k d) ≡ pair_at (row_pairs r) k
+row_pair r k d h = grind (arith, pair_at_in (row_pairs r) k d, row_length r, get_or-take r.size r.pairs k d h)
 
 -- the total without the lowest pair
 pub total_rest : (ps : Pairs) (d : ℤ × ℕ) → 0 < length ps → (get_or ps 0 d).1 + total (without_lowest ps) ≡ total ps

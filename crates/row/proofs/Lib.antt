@@ -1,6 +1,7 @@
 pub mod Kept
 pub mod Places
 pub mod Steps
+pub mod Rooms
 pub mod Raising
 pub mod Moves
 pub mod Joins

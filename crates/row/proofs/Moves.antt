@@ -1,5 +1,5 @@
 -- Tables whose elements move by one place.
-use Rattle.std.proofs.Common.{◌≡◌, ℕ, ◌+◌, ◌-◌, ◌<◌, ◌≤◌, List, [], ◌∷◌, ◌++◌, length, take, drop, set, sym, ap, ◌∙◌, arith}
+use Rattle.std.proofs.Common.{◌≡◌, ℕ, zero, suc, ◌+◌, ◌-◌, ◌<◌, ◌≤◌, List, [], ◌∷◌, ◌++◌, length, get_or, take, drop, set, sym, refl, ap, ◌∙◌, arith}
 use lib.Seq.{take-set-lt}
 use Rattle.std.specs.List.{insert, copy_within}
 use Rattle.std.proofs.lemmas.List.{append_assoc, length-take-le, length-drop, set-append_left, take_at, take_more_set, take-take, drop-take}
@@ -23,6 +23,12 @@ module _ {X : Type 0} where
       ∙ ap (λ ys. ys ++ moved) (sym (take-set-lt (k + 1) xs k x (omega arith)) ∙ take_more_set xs k x (omega arith))
       ∙ append_assoc (take k xs) (x ∷ []) moved
       ∙ (cc)
+
+  -- a second x right after x is a second x right before it
+  pub inserted_twin : (xs : List X) (k : ℕ) (d : X) → k < length xs → insert xs (suc k) (get_or xs k d) ≡ insert xs k (get_or xs k d)
+  inserted_twin [] k d h = absurd (omega arith)
+  inserted_twin (y ∷ ys) zero d h = refl
+  inserted_twin (y ∷ ys) (suc k) d h = ap (λ zs. y ∷ zs) (inserted_twin ys k d (omega arith))
 
   -- the elements from 1 to n move down
   pub removed : (xs : List X) (n : ℕ) → 0 < n → n ≤ length xs → take (n - 1) (copy_within xs 1 n 0) ≡ drop 1 (take n xs)

@@ -30,3 +30,7 @@ sought_ok i ps k e = grind arith
 
 pub sought_err : (i : ℤ) (ps : Pairs) (k : ℕ) → Err k ≡ sought i ps → (listed i ps ≡ false) × (place i ps ≡ k)
 sought_err i ps k e = grind arith
+
+-- what a search answers of an index that is not listed
+pub sought_unlisted : (i : ℤ) (ps : Pairs) (k : ℕ) → listed i ps ≡ false → place i ps ≡ k → Err k ≡ sought i ps
+sought_unlisted i ps k n e = grind arith

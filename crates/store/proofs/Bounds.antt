@@ -30,9 +30,19 @@ pub above_less : (i j : ℤ) (ps : Pairs) → i ≤ℤ j → Above j ps → Abov
 above_less i j [] h a = tt
 above_less i j (p ∷ ps) h a = grind (arith, ints, above_less i j ps h a.1)
 
+-- what lies from an index on lies above every lower one
+pub above_from : (i j : ℤ) (ps : Pairs) → i <ℤ j → From j ps → Above i ps
+above_from i j [] h a = tt
+above_from i j (p ∷ ps) h a = grind (arith, ints, above_from i j ps h a.1)
+
 pub from_above : (i : ℤ) (ps : Pairs) → Above i ps → From i ps
 from_above i [] a = tt
 from_above i (p ∷ ps) a = grind (arith, ints, from_above i ps a.1)
+
+-- what lies from an index on lies from every lower one on
+pub from_less : (i j : ℤ) (ps : Pairs) → i ≤ℤ j → From j ps → From i ps
+from_less i j [] h a = tt
+from_less i j (p ∷ ps) h a = grind (arith, ints, from_less i j ps h a.1)
 
 -- an index not above the first of a rising list, and not that
 pub above_apart : (p q : ℤ × ℕ) (qs : Pairs) → (p.0 ≡ q.0 → ⊥) → p.0 ≤ℤ q.0 → Above q.0 qs → Above p.0 (q ∷ qs)

@@ -88,3 +88,7 @@ raised_left i (x ∷ xs) ys l = grind (arith, raised_left i xs ys l)
 -- i put in between
 pub raised_between : (i : ℤ) (xs ys : Pairs) → Below i xs → T (leads i ys) → raised i (xs ++ ys) ≡ xs ++ (i, 1) ∷ ys
 raised_between i xs ys b l = grind (arith, raised_right i xs ys b, raised_left i [] ys l)
+
+-- the count of a listed i
+pub raised_at : (i : ℤ) (c : ℕ) (xs ys : Pairs) → Below i xs → raised i (xs ++ (i, c) ∷ ys) ≡ xs ++ (i, c + 1) ∷ ys
+raised_at i c xs ys b = grind (arith, raised_right i xs ((i, c) ∷ ys) b, raised_here i (i, c) ys)
