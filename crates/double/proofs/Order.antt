@@ -16,6 +16,14 @@ pub fits_tested : (f : Format) (s : Bool) (m : ℕ) (e : ℤ) → T (fits f (fin
 unfolding fits
 fits_tested f s m e h = h
 
+-- the same test by the name of its first part
+abbrev pub odd : Format → ℕ → ℤ → Bool
+odd f m e = fits_test f m e
+
+-- what fits passes that test
+pub fits_odd : (f : Format) (s : Bool) (m : ℕ) (e : ℤ) → T (fits f (fin s (suc m) e)) → T (odd f m e)
+fits_odd f s m e h = fits_tested f s m e h
+
 pub fits_zero : (f : Format) (s : Bool) (e : ℤ) → T (fits f (fin s zero e)) → up e * down e ≡ 1
 unfolding fits
 fits_zero f s e h = eqb→eq (up e * down e) 1 h
