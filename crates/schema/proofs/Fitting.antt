@@ -6,21 +6,26 @@ use Rattle.std.proofs.lemmas.Int.{by_lt_z}
 use Rattle.schema.specs.Factor.{growth, first_from, schema_for, Smallest}
 use Rattle.schema.proofs.Rules.{schema_range, schema_within}
 
+-- where the growth of s is at most f, s is found
+pub fitting_here : (n : ℕ) (s : ℤ) (f : Float) → le (growth s) f ≡ true → first_from (suc n) s f ≡ s
+fitting_here n s f e = ap (λ (b : Bool). cond b s (first_from n (s +ℤ pos 1) f)) e
+
+-- where it is above f, what is found is found from the next one on
+pub fitting_later : (n : ℕ) (s : ℤ) (f : Float) → le (growth s) f ≡ false → first_from (suc n) s f ≡ first_from n (s +ℤ pos 1) f
+fitting_later n s f e = ap (λ (b : Bool). cond b s (first_from n (s +ℤ pos 1) f)) e
+
 -- the schema that is found from s on
 abbrev pub fitting_from : ℤ → Float → ℤ
 fitting_from s f = first_from (nat_abs (pos 8 -ℤ s)) s f
-
-chosen : (n m : ℕ) (s : ℤ) (f : Float) (b : Bool) → n ≡ suc m → le (growth s) f ≡ b → first_from n s f ≡ cond b s (first_from m (s +ℤ pos 1) f)
-chosen n m s f b e g = ap (λ (k : ℕ). first_from k s f) e ∙ ap (λ (b : Bool). cond b s (first_from m (s +ℤ pos 1) f)) g
 
 fewer : (s : ℤ) → s <ℤ pos 8 → nat_abs (pos 8 -ℤ s) ≡ suc (nat_abs (pos 8 -ℤ (s +ℤ pos 1)))
 fewer s l = omega (arith, ints)
 
 pub found_here : (s : ℤ) (f : Float) → s <ℤ pos 8 → le (growth s) f ≡ true → fitting_from s f ≡ s
-found_here s f l g = chosen _ _ s f true (fewer s l) g
+found_here s f l g = ap (λ (k : ℕ). first_from k s f) (fewer s l) ∙ fitting_here _ s f g
 
 pub found_later : (s : ℤ) (f : Float) → s <ℤ pos 8 → le (growth s) f ≡ false → fitting_from s f ≡ fitting_from (s +ℤ pos 1) f
-found_later s f l g = chosen _ _ s f false (fewer s l) g
+found_later s f l g = ap (λ (k : ℕ). first_from k s f) (fewer s l) ∙ fitting_later _ s f g
 
 record First (n : ℕ) (s : ℤ) (f : Float) (r : ℤ) : Type 0 where
   pub from : s ≤ℤ r

@@ -1,9 +1,9 @@
 -- What the program reads of a table and of an index, as the definitions have it.
-use Rattle.std.proofs.Common.{◌≡◌, ℕ, zero, suc, ◌+◌, ◌-◌, ◌*◌, ◌^◌, ◌<◌, ◌≤◌, not, T, List, get_or, ℤ, pos, negsuc, ◌+ℤ◌, ◌*ℤ◌, neg_ℤ, sym, refl, ap, ◌∙◌, subst, le_of_eq, lt_of_lt_of_le, arith, pow_mono}
+use Rattle.std.proofs.Common.{◌≡◌, ℕ, zero, suc, ◌+◌, ◌-◌, ◌*◌, ◌^◌, ◌<◌, ◌≤◌, not, T, List, get_or, ℤ, pos, negsuc, ◌+ℤ◌, ◌*ℤ◌, neg_ℤ, nat_abs, ◌≤ℤ◌, sym, refl, ap, ◌∙◌, subst, le_of_eq, lt_of_lt_of_le, div-le_self, arith, pow_mono}
 use borrow.Author.Differences.{ints}
 use lib.Ieee.{Float, nan, binary64, is_nan, to_bits, of_bits}
 use lib.Ieee.Bits.{to_bits-of_bits}
-use Rattle.std.specs.Int.{int_div_euclid}
+use Rattle.std.specs.Int.{int_div_euclid, int_rem_euclid}
 use Rattle.index.specs.Index.{quotient, remainder}
 use Rattle.double.proofs.Fraction.{normal_bits}
 use Rattle.schema.specs.Tables.{table, entry, entry_double, doubles}
@@ -39,6 +39,16 @@ read_entry a k bs h e g =
 pub quotient_is : (i : ℤ) (d : ℕ) → int_div_euclid i (pos d) ≡ quotient d i
 quotient_is (pos n) d = refl
 quotient_is (negsuc n) d = refl
+
+-- the remainder that is never negative, as a natural number
+pub remainder_is : (i : ℤ) (d : ℕ) → nat_abs (int_rem_euclid i (pos d)) ≡ remainder d i
+remainder_is (pos n) d = refl
+remainder_is (negsuc n) d = refl
+
+-- the quotient stays within the bounds of what is divided
+pub quotient_range : (d : ℕ) (z : ℤ) → negsuc 275199 ≤ℤ z → z ≤ℤ pos 262159 → (negsuc 275199 ≤ℤ quotient d z) × (quotient d z ≤ℤ pos 262159)
+quotient_range d (pos n) l h = (omega (arith, ints), omega (arith, ints, div-le_self n d))
+quotient_range d (negsuc n) l h = (omega (arith, ints, div-le_self n d), omega (arith, ints))
 
 pub cut_table : (a : ℕ) (i : ℤ) → cut (pos a) i ≡ scaled (entry a (remainder (2 ^ a) i)) (quotient (2 ^ a) i +ℤ pos 1 +ℤ pos 1021)
 unfolding cut
