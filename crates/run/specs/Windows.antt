@@ -24,10 +24,12 @@ pub record Window (counters : List ℕ) (first span size sum : ℕ) : Type 0 whe
   pub summed : sum ≡ total (listing (counter counters) first span)
   pub bounded : sum < 2 ^ 64
 
--- the same, as a run is asked for them: the first two are its window's own
+-- the same, as facts
 abbrev pub Kept : List ℕ → ℕ → ℕ → ℕ → ℕ → Type 0
 Kept counters first span size sum =
     record {
+      width : span ≤ 512;
+      reach : first + span ≤ positions;
       low : 0 < span → 0 < counter counters first;
       high : 0 < span → 0 < counter counters (first + span - 1);
       unused : (k : ℕ) → first + span ≤ k → k < first + 512 → counter counters k ≡ 0;
@@ -39,12 +41,38 @@ Kept counters first span size sum =
 pub kept : {counters : List ℕ} {first span size sum : ℕ} → Window counters first span size sum → Kept counters first span size sum
 kept w =
     record {
+      width = w.width;
+      reach = w.reach;
       low = w.low;
       high = w.high;
       unused = w.unused;
       sized = w.sized;
       summed = w.summed;
       bounded = w.bounded;
+    }
+
+-- those that a run is asked for: the first two are its window's own
+abbrev pub KeptByRun : List ℕ → ℕ → ℕ → ℕ → ℕ → Type 0
+KeptByRun counters first span size sum =
+    record {
+      low : 0 < span → 0 < counter counters first;
+      high : 0 < span → 0 < counter counters (first + span - 1);
+      unused : (k : ℕ) → first + span ≤ k → k < first + 512 → counter counters k ≡ 0;
+      sized : size ≡ length (listing (counter counters) first span);
+      summed : sum ≡ total (listing (counter counters) first span);
+      bounded : sum < 2 ^ 64;
+    }
+
+pub kept_by_run : {counters : List ℕ} {first span size sum : ℕ} → Window counters first span size sum → KeptByRun counters first span size sum
+kept_by_run w =
+    let k = kept w in
+    record {
+      low = k.low;
+      high = k.high;
+      unused = k.unused;
+      sized = k.sized;
+      summed = k.summed;
+      bounded = k.bounded;
     }
 
 pub window_of : (run : Run) → Window run.counters run.window.first run.window.span run.size run.total

@@ -101,11 +101,22 @@ impl BucketStore for Run {
     }
 
     fn pair(&self, position: usize) -> Option<(i32, u64)> {
-        self.window
-            .positions()
-            .map(|at| self.bucket(at))
-            .filter(|&(_, count)| count > 0)
-            .nth(position)
+        // a call past the end walks nothing
+        if position >= self.size {
+            return None;
+        }
+        // Counted down by hand, since with `filter` and `nth` a run of many pairs takes up to twice as long to be written.
+        let mut left = position;
+        for at in self.window.first..self.window.first + self.window.span {
+            let count = self.counter(at);
+            if count > 0 {
+                if left == 0 {
+                    return Some((Position { at }.index(), count));
+                }
+                left -= 1;
+            }
+        }
+        None
     }
 
     fn has_room(&self, index: i32) -> bool {
@@ -133,6 +144,10 @@ impl BucketStore for Run {
     }
 
     fn halve(&mut self) {
+        // an empty run is not copied
+        if self.window.span == 0 {
+            return;
+        }
         let mut halved = Run::new();
         for at in self.window.positions().rev() {
             let count = self.counter(at);

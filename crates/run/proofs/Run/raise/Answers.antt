@@ -1,7 +1,7 @@
 use Rattle.std.proofs.Common.{◌≡◌, ◌+◌, ap, arith, rules}
 use Rattle.run.specs.Window.{counter}
 use Rattle.run.specs.Listings.{length_below, used, used_zero, used_more}
-use Rattle.run.specs.Windows.{window_of, kept}
+use Rattle.run.specs.Windows.{window_of, kept_by_run}
 use Rattle.run.proofs.Raising.{counter_part, raises, raises_window}
 use Rattle.run.proofs.Run.raise.Goals as goal
 use Rattle.run.proofs.Run.raise.Goals.{then-self-place-eq0, else-self-place-eq0}
@@ -25,7 +25,7 @@ invariant_of-self c =
       | then-self-place-eq0 w ↦ omega (arith, ap (λ t. t.1.1.1.0) w.self-is, used_zero count w.if-self-place-eq0.true)
       | else-self-place-eq0 w ↦ omega (arith, ap (λ t. t.1.1.1.0) w.self-is, used_more count (omega arith))
     ] in
-    kept (raises_window (window_of run) c.widened-self.ensures (search rules) c.args.by c.requires.more size c.args.position.bound counts c.requires.fits)
+    kept_by_run (raises_window (window_of run) c.widened-self.ensures (search rules) c.args.by c.requires.more size c.args.position.bound counts c.requires.fits)
 
 pub returns-clause-pairs : goal.returns-clause-pairs
 returns-clause-pairs c =

@@ -1,24 +1,44 @@
-use Rattle.std.proofs.Common.{◌+◌, arith, rules, sym, ap, ◌∙◌}
-use borrow.Author.Tests.{tests}
-use Rattle.std.proofs.lemmas.Iterator.{YieldsList-from_range, YieldsList-from_map}
-use Rattle.std.proofs.lemmas.Iterator.Consumers.{nth_from_yields_List, YieldsList-from_filter, YieldsList-at}
-use Rattle.std.proofs.lemmas.Iterator.Adapters.{option_map_id}
-use Rattle.std.specs.List.{slice_get}
+use Rattle.std.proofs.Common.{◌≡◌, ◌+◌, Some, sym, ap, ◌∙◌, arith, w32, to_z, of_z}
+use Rattle.std.proofs.lemmas.Int.{ints}
+use Rattle.store.specs.Pairs.{pair_at}
+use Rattle.store.proofs.Parts.{pair_at_past}
+use Rattle.run.specs.Runs.{pairs_of}
 use Rattle.run.specs.Window.{index_of, counter}
-use Rattle.run.proofs.Chain.{is_counted, filter-map-range, slice_get-pairs}
+use Rattle.run.specs.Listings.{walk_ends, walk_passes, walk_skips}
 use Rattle.run.proofs.bucket_store.RunBucketStore.pair.Goals as goal
+use Rattle.run.proofs.bucket_store.RunBucketStore.pair.Goals.{then-count-gt0+else-left-eq0, else-count-gt0}
 
-pub returns : goal.returns
-returns c =
+-- past the last pair
+pub returns-then-position-self : goal.returns-then-position-self
+returns-then-position-self c =
     let run = c.args.self.now in
-    let count = counter run.counters in
-    sym (option_map_id c.nth.result)
-    ∙ nth_from_yields_List c.nth.result _ c.args.position c.nth.ensures.ran
-    (YieldsList-from_filter _ is_counted
-    (YieldsList-at c.filter.ensures.source
-    (YieldsList-from_map _ (λ a. (index_of a, count a))
-    (YieldsList-at c.map.ensures.source (YieldsList-from_range run.window.first (run.window.first + run.window.span) run.window.span c.positions.ensures (omega arith)))
-    c.map.ensures.closure (λ x r q k. search (rules, tests))))
-    c.filter.ensures.closure (λ x r q k. search (rules, tests)))
-    ∙ ap (λ ps. slice_get ps c.args.position) (filter-map-range count run.window.first run.window.span)
-    ∙ slice_get-pairs _ c.args.position
+    let all = run.sized in
+    sym (pair_at_past (pairs_of run) c.args.position (omega arith))
+
+pub returns-then-left-eq0 : goal.returns-then-left-eq0
+returns-then-left-eq0 c =
+    let run = c.args.self.now in
+    let at = c.loop-at.at in
+    let here = c.counter-count.ensures in
+    let i : to_z w32 (of_z w32 c.index.result) ≡ index_of at = omega (arith, ints) in
+    ap (λ n. Some (to_z w32 (of_z w32 c.index.result), n)) here
+    ∙ walk_ends (counter run.counters) at (run.window.first + run.window.span) c.loop-at.left c.loop-at-test.true
+    (to_z w32 (of_z w32 c.index.result)) (pair_at (pairs_of run) c.args.position)
+    i (omega arith) c.if-left-eq0.true c.loop-at.invariant
+
+pub loop-at-preserved : goal.loop-at-preserved
+loop-at-preserved c =
+    let run = c.args.self.now in
+    let at = c.loop-at.at in
+    let left = c.loop-at.left in
+    let end = run.window.first + run.window.span in
+    let sought = pair_at (pairs_of run) c.args.position in
+    let here = c.counter-count.ensures in
+    elim c.if-count-gt0.branch [
+      | then-count-gt0+else-left-eq0 w ↦
+          walk_passes (counter run.counters) at end left c.loop-at-test.true c.if-count-gt0.left sought
+          w.left-is (let used = w.if-count-gt0.true in omega arith) (omega arith) c.loop-at.invariant
+      | else-count-gt0 w ↦
+          walk_skips (counter run.counters) at end left c.loop-at-test.true c.if-count-gt0.left sought
+          w.left-is (let unused = w.if-count-gt0.false in omega arith) c.loop-at.invariant
+    ]

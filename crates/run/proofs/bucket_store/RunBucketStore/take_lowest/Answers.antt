@@ -1,6 +1,6 @@
 use Rattle.std.proofs.Common.{◌≡◌, ap, ◌∙◌, Some, arith, w32, to_z, of_z, rules}
 use Rattle.std.proofs.lemmas.Int.{ints}
-use Rattle.run.specs.Windows.{window_of, kept}
+use Rattle.run.specs.Windows.{window_of, kept_by_run}
 use Rattle.run.proofs.Taking.{takes_size, takes_sum, takes_lowest, takes_rest, takes_window}
 use Rattle.run.proofs.bucket_store.RunBucketStore.take_lowest.Goals as goal
 
@@ -14,7 +14,7 @@ overflow_sub-self-2 c =
 
 pub invariant_of-self : goal.invariant_of-self
 invariant_of-self c =
-    kept
+    kept_by_run
     (takes_window (window_of c.args.self.now) c.in_ok-lowest.ensures c.bucket-index.ensures
     (search rules) c.used_from-next.ensures c.starting_at-self.ensures.first c.starting_at-self.ensures.span)
 
