@@ -2,9 +2,11 @@
 use Rattle.std.proofs.Common.{◌≡◌, ℕ, ◌^◌, ◌<◌, T, [], ◌∷◌, ◌++◌, length, ℤ, pos, negsuc, ◌+ℤ◌, ◌≤ℤ◌, Some, None, Option, unwrap_or, refl, ap, arith}
 use Rattle.std.proofs.lemmas.Int.{ints}
 use Rattle.std.proofs.lemmas.Grind.{common_steps}
-use Rattle.store.specs.Pairs.{Pairs, rising, ranged}
+use Rattle.std.proofs.lemmas.Bool.{cond_both}
+use Rattle.store.specs.Pairs.{Pairs, same, rising, ranged}
+use Rattle.store.proofs.Order.{same_true}
 use Rattle.store.proofs.Bounds.{Above, rising_above}
-use Rattle.span.specs.Spans.{filled, filled_from}
+use Rattle.span.specs.Spans.{filler, filled, filled_from}
 use Rattle.span.specs.Writing.{measure_refusal}
 
 -- the indices rise from `low` on, and end in range
@@ -23,6 +25,13 @@ climbs_after i (p ∷ ps) a r t h = grind (arith, ints, climbs_after p.0 ps, ris
 pub climbs : (ps : Pairs) → T (rising ps) → T (ranged ps) → Climbs (negsuc 274943) ps
 climbs [] r t = omega (arith, ints)
 climbs (p ∷ ps) r t = grind (arith, ints, climbs_after p.0 ps, rising_above p ps)
+
+-- what holds for each of the three ways to fill a gap holds for the one that is taken
+pub by_filler : (P : Pairs → Type 0) (next i : ℤ) → (i ≡ next +ℤ pos 1 → P ((next, 0) ∷ [])) → (i ≡ next +ℤ pos 2 → P ((next, 0) ∷ (next +ℤ pos 1, 0) ∷ [])) → P [] → P (filler next i)
+by_filler P next i one two none =
+    cond_both (same i (next +ℤ pos 1)) _ _ P
+    (λ e. one (same_true i (next +ℤ pos 1) e))
+    (λ _. cond_both (same i (next +ℤ pos 2)) _ _ P (λ e. two (same_true i (next +ℤ pos 2) e)) (λ _. none))
 
 climbs_filled_from : (next : ℤ) (ps : Pairs) → Climbs next ps → Climbs next (filled_from next ps)
 climbs_filled_from next [] h = h

@@ -1,12 +1,13 @@
 -- The pairs with short gaps filled, as they are listed one after another.
 use Rattle.std.proofs.Common.{◌≡◌, ℕ, zero, suc, ◌+◌, ◌^◌, ◌<◌, ◌≤◌, true, false, T, ◌⊎◌, [], ◌∷◌, length, drop, ℤ, pos, negsuc, ◌+ℤ◌, ◌-ℤ◌, ◌≤ℤ◌, is_some, Some, None, Option, sym, refl, ap, ◌∙◌, inl, inr, arith, w32, to_z, of_z}
-use lib.Signed.{le_z, lt_z, ◌<ℤ◌}
+use lib.Signed.{le_z, lt_z, le_z_yes, ◌<ℤ◌}
 use borrow.Author.Tests.{clash}
 use Rattle.std.specs.Option.{MatchOption}
 use Rattle.std.proofs.lemmas.Int.{ints}
 use Rattle.std.proofs.lemmas.Grind.{common_steps}
+use Rattle.index.specs.Index.{in_index_range}
 use Rattle.store.specs.Pairs.{Pairs, Means, counted, ranged, total, pair_at}
-use Rattle.store.proofs.Bounds.{counted_first, counted_tail}
+use Rattle.store.proofs.Bounds.{and_T, counted_first, counted_tail}
 use Rattle.store.proofs.Range.{ranged_tail}
 use Rattle.span.specs.Spans.{filled, filled_from, ahead}
 
@@ -14,6 +15,12 @@ use Rattle.span.specs.Spans.{filled, filled_from, ahead}
 pub record Ranges (i : ℤ) : Type 0 where
   pub low : negsuc 274943 ≤ℤ i
   pub high : i ≤ℤ pos 262145
+
+-- an index that passes the test of the range has them
+pub ranges : (i : ℤ) → T (in_index_range i) → Ranges i
+ranges i t =
+    let r = and_T (le_z (negsuc 274943) i) (le_z i (pos 262145)) t in
+    record { low = le_z_yes r.0; high = le_z_yes r.1 }
 
 -- a pair that stands at a position
 pub pair_ranges : (ps : Pairs) (k : ℕ) {p : ℤ × ℕ} → T (ranged ps) → Some p ≡ pair_at ps k → Ranges p.0
@@ -55,6 +62,12 @@ ahead_pair ps k next p e one two = rw (drop_pair ps k p e) (grind (arith, ints))
 -- where it is, `next` is, with count 0
 ahead_zero : (ps : Pairs) (k : ℕ) (next : ℤ) (p : ℤ × ℕ) → pair_at ps k ≡ Some p → (p.0 ≡ next +ℤ pos 1) ⊎ (p.0 ≡ next +ℤ pos 2) → ahead ps k next ≡ (next, 0) ∷ ahead ps k (next +ℤ pos 1)
 ahead_zero ps k next p e short = rw (drop_pair ps k p e) (grind (arith, ints))
+
+pub ahead_one : (ps : Pairs) (k : ℕ) (next : ℤ) (p : ℤ × ℕ) → pair_at ps k ≡ Some p → p.0 ≡ next +ℤ pos 1 → ahead ps k next ≡ (next, 0) ∷ ahead ps k (next +ℤ pos 1)
+ahead_one ps k next p e one = ahead_zero ps k next p e (inl one)
+
+pub ahead_two : (ps : Pairs) (k : ℕ) (next : ℤ) (p : ℤ × ℕ) → pair_at ps k ≡ Some p → p.0 ≡ next +ℤ pos 2 → ahead ps k next ≡ (next, 0) ∷ ahead ps k (next +ℤ pos 1)
+ahead_two ps k next p e two = ahead_zero ps k next p e (inr two)
 
 -- the start
 ahead_start : (ps : Pairs) (p : ℤ × ℕ) → pair_at ps 0 ≡ Some p → ahead ps 0 p.0 ≡ filled ps

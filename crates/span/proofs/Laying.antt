@@ -9,7 +9,7 @@ use Rattle.span.specs.Spans.{Spans, filled, runs, differences, spans, deltas}
 use Rattle.span.specs.Writing.{measure_refusal, write_refusal, laid}
 use Rattle.span.proofs.Climbing.{after}
 use Rattle.span.proofs.Steps.{runs_grow, last_count, differences_more, length_differences, laid_more, laid_last, laid_at}
-use Rattle.span.proofs.Seen.{Seen, lists_more, too_large, seen_place, joins, starts, seen_new, spans_new, seen_longer, spans_same}
+use Rattle.span.proofs.Seen.{Seen, lists_more, too_large, seen_place, joins, starts, new_runs, spans_new, seen_longer, spans_same}
 
 -- buffers that are long enough, for counts that are small enough
 pub record Ready (ps : Pairs) (s d : ℕ) : Type 0 where
@@ -75,7 +75,7 @@ module _ {ps ys rest rest' : Pairs} {q : ℤ × ℕ} {end : Option ℤ} {n : Len
         ∙ ap (λ xs. set xs (length (runs ys)) (offset, 1)) w
         ∙ laid_more (runs ys) ss (offset, 1) (omega arith)
         ∙ ap (λ x. laid (runs ys ++ (x, 1) ∷ []) ss) f
-        ∙ ap (λ xs. laid xs ss) (sym (seen_new seen e apart))
+        ∙ ap (λ xs. laid xs ss) (sym (new_runs seen e apart))
 
   -- q lengthens the last span
   module _ (joined : end ≡ Some q.0) where
@@ -120,7 +120,7 @@ module _ {ps ys rest rest' : Pairs} {q : ℤ × ℕ} {end : Option ℤ} {n : Len
 
   module _ (m : Means ps) (t : T (ranged ps)) where
     pub room_in_last : option_eq int_eq end (Some (to_z w32 (of_z w32 q.0))) ≡ true → (0 < n.spans) × (n.spans ≤ s)
-    room_in_last b = last_fits seen e (joins (seen_place seen e m t) end b) s (ready ps s d none).of_spans
+    room_in_last b = last_fits seen e (joins (seen_place seen e m.rises t) end b) s (ready ps s d none).of_spans
 
     pub room_for_span : option_eq int_eq end (Some (to_z w32 (of_z w32 q.0))) ≡ false → n.spans + 1 ≤ s
-    room_for_span b = new_fits seen e (starts (seen_place seen e m t) end b) s (ready ps s d none).of_spans
+    room_for_span b = new_fits seen e (starts (seen_place seen e m.rises t) end b) s (ready ps s d none).of_spans

@@ -6,7 +6,7 @@ use Rattle.std.proofs.lemmas.List.{length_push}
 use Rattle.std.proofs.lemmas.Int.{ints}
 use Rattle.std.proofs.lemmas.Bool.{false≢true, both_ways, cond-true, cond-false, lt-ltb, le-ltb}
 use Rattle.std.proofs.lemmas.Bool.Decides.{Decides-int_eq}
-use Rattle.store.specs.Pairs.{Pairs, Means, ranged}
+use Rattle.store.specs.Pairs.{Pairs, Means, rising, ranged}
 use Rattle.span.specs.declared.writing.Lengths.{Lengths}
 use Rattle.span.specs.Spans.{filled, runs}
 use Rattle.span.specs.Writing.{measure_refusal}
@@ -38,14 +38,14 @@ module _ {ps ys rest rest' : Pairs} {q : ℤ × ℕ} {end : Option ℤ} {n : Len
   counts_more h =
       sym (cond-true (ltb q.1 (2 ^ 63)) _ _ (lt-ltb q.1 (2 ^ 63) h)) ∙ sym (ap measure_refusal e) ∙ seen.counts
 
-  pub seen_place : Means ps → T (ranged ps) → Place ys q
-  seen_place m t =
+  pub seen_place : T (rising ps) → T (ranged ps) → Place ys q
+  seen_place r t =
       place ys q rest'
-      (subst (Climbs (negsuc 274943)) (sym (ap (λ xs. ys ++ xs) (sym e) ∙ seen.lists)) (climbs_filled (negsuc 274943) ps (climbs ps m.rises t)))
+      (subst (Climbs (negsuc 274943)) (sym (ap (λ xs. ys ++ xs) (sym e) ∙ seen.lists)) (climbs_filled (negsuc 274943) ps (climbs ps r t)))
 
   pub seen_few : Means ps → T (ranged ps) → (n.spans < 2 ^ 20) × (n.deltas < 2 ^ 20)
   seen_few m t =
-      let f = (seen_place m t).few in
+      let f = (seen_place m.rises t).few in
       let s = seen.of_spans in
       let d = seen.of_deltas in
       let r = runs_few ys in
@@ -53,11 +53,11 @@ module _ {ps ys rest rest' : Pairs} {q : ℤ × ℕ} {end : Option ℤ} {n : Len
 
   -- q starts a span
   module _ (apart : end ≡ Some q.0 → ⊥) where
-    pub seen_new : runs (ys ++ q ∷ []) ≡ runs ys ++ (q.0 -ℤ after ys, 1) ∷ []
-    seen_new = runs_new ys q (λ f. apart (seen.of_end ∙ f))
+    pub new_runs : runs (ys ++ q ∷ []) ≡ runs ys ++ (q.0 -ℤ after ys, 1) ∷ []
+    new_runs = runs_new ys q (λ f. apart (seen.of_end ∙ f))
 
     pub spans_new : length (runs (ys ++ q ∷ [])) ≡ n.spans + 1
-    spans_new = ap length seen_new ∙ length_push (runs ys) _ ∙ ap (λ k. k + 1) (sym seen.of_spans)
+    spans_new = ap length new_runs ∙ length_push (runs ys) _ ∙ ap (λ k. k + 1) (sym seen.of_spans)
 
   -- q lengthens one
   module _ (joins : end ≡ Some q.0) where
@@ -78,6 +78,10 @@ module _ {ps ys rest rest' : Pairs} {q : ℤ × ℕ} {end : Option ℤ} {n : Len
     of_deltas = d ∙ ap (λ k. k + 1) seen.of_deltas ∙ sym (length_push ys q);
   }
 
+  -- q starts a span: there is one more of both
+  pub seen_new : (i : ℤ) (n' : Lengths) → i ≡ q.0 +ℤ pos 1 → q.1 < 2 ^ 63 → (end ≡ Some q.0 → ⊥) → n'.spans ≡ n.spans + 1 → n'.deltas ≡ n.deltas + 1 → Seen ps (ys ++ q ∷ []) rest' (Some i) n'
+  seen_new i n' f h apart s d = seen_more i n' f h (s ∙ sym (spans_new apart)) d
+
 -- nothing is ahead
 module _ {ps ys rest : Pairs} {end : Option ℤ} {n : Lengths} (seen : Seen ps ys rest end n) (e : rest ≡ []) where
   pub seen_all : ys ≡ filled ps
@@ -91,8 +95,8 @@ module _ {ys : Pairs} {q : ℤ × ℕ} (p : Place ys q) where
   pub index_is : to_z w32 (of_z w32 q.0) ≡ q.0
   index_is = let l = p.index_low in let h = p.index_high in omega (arith, ints)
 
-  pub after_is : to_z w32 (of_z w32 (to_z w32 (of_z w32 q.0) +ℤ pos 1)) ≡ q.0 +ℤ pos 1
-  after_is = let l = p.index_low in let h = p.index_high in omega (arith, ints)
+  pub next_is : to_z w32 (of_z w32 (to_z w32 (of_z w32 q.0) +ℤ pos 1)) ≡ q.0 +ℤ pos 1
+  next_is = let l = p.index_low in let h = p.index_high in omega (arith, ints)
 
   -- it is compared with the end
   pub starts : (end : Option ℤ) → option_eq int_eq end (Some (to_z w32 (of_z w32 q.0))) ≡ false → end ≡ Some q.0 → ⊥

@@ -1,11 +1,13 @@
 -- The buckets still to be read, one step at a time.
 use Rattle.std.proofs.Common.{◌≡◌, ℕ, zero, suc, ◌-◌, ◌^◌, ◌<◌, T, List, [], ◌∷◌, ◌++◌, length, ℤ, pos, negsuc, ◌+ℤ◌, nat_abs, ◌≤ℤ◌, sym, refl, ap, arith, w32, w64, SFits, to_z, of_z}
+use lib.Signed.{le_z, le_z_yes}
 use Rattle.std.proofs.lemmas.List.{nil_from_length}
 use Rattle.std.proofs.lemmas.Int.{ints}
+use Rattle.store.proofs.Bounds.{and_T}
 use Rattle.span.specs.declared.reader.BucketReader.{BucketReader}
 use Rattle.span.specs.Spans.{Spans}
 use Rattle.span.specs.Readers.{reader_buckets}
-use Rattle.span.specs.Reading.{consecutive, indices, listing, inside, unread, Sound}
+use Rattle.span.specs.Reading.{consecutive, indices, listing, inside, countable, counts_fit, unread, Sound}
 
 listing_none : (is : List ℤ) (before : ℤ) → listing is before [] ≡ []
 listing_none [] before = refl
@@ -30,25 +32,44 @@ unread_next index (suc n) ss before d ds h =
     let f : index +ℤ pos (suc n) ≡ index +ℤ pos 1 +ℤ pos n = omega (arith, ints) in
     rw (f, e) refl
 
+-- what is asked of the span that is next, and of those after it
+pub record Fitting (index : ℤ) (s : ℤ × ℕ) (ss : Spans) : Type 0 where
+  pub low : negsuc 274943 ≤ℤ (index +ℤ s.0)
+  pub high : (index +ℤ s.0 +ℤ pos s.1) ≤ℤ pos 262146
+  pub ahead : T (inside (index +ℤ s.0 +ℤ pos s.1) ss)
+
+-- indices that stay in range, the span s first
+pub fitting : (index : ℤ) (s : ℤ × ℕ) (ss : Spans) → T (inside index (s ∷ ss)) → Fitting index s ss
+fitting index s ss t =
+    let a = and_T (le_z (negsuc 274943) (index +ℤ s.0)) _ t in
+    let b = and_T (le_z (index +ℤ s.0 +ℤ pos s.1) (pos 262146)) _ a.1 in
+    record { low = le_z_yes a.0; high = le_z_yes b.0; ahead = b.1 }
+
+-- what is asked of the count that is next, and of those after it
+pub record Counted (before d : ℤ) (ds : List ℤ) : Type 0 where
+  pub low : pos 0 ≤ℤ (before +ℤ d)
+  pub high : (before +ℤ d) ≤ℤ pos (2 ^ 63 - 1)
+  pub counts : T (counts_fit (before +ℤ d) ds)
+
+-- counts that fit, that of the delta d first
+pub counted_next : (before d : ℤ) (ds : List ℤ) → T (counts_fit before (d ∷ ds)) → Counted before d ds
+counted_next before d ds t =
+    let a = and_T (countable (before +ℤ d)) _ t in
+    let b = and_T (le_z (pos 0) (before +ℤ d)) (le_z (before +ℤ d) (pos (2 ^ 63 - 1))) a.0 in
+    record { low = le_z_yes b.0; high = le_z_yes b.1; counts = a.1 }
+
 -- where the span s is begun, what a reader keeps holds on, and the index is as the machine has it
 module _ (index : ℤ) (s : ℤ × ℕ) (ss : Spans) (before : ℤ) (ds : List ℤ) (k : Sound index 0 (s ∷ ss) before ds) where
-  within : T (inside index (s ∷ ss))
-  within = rw (same_place index) at k.ahead
-
-  begun_low : negsuc 274943 ≤ℤ (index +ℤ s.0)
-  begun_low = let t = within in grind (arith, ints)
-
-  begun_high : (index +ℤ s.0 +ℤ pos s.1) ≤ℤ pos 262146
-  begun_high = let t = within in grind (arith, ints)
+  fits : Fitting index s ss
+  fits = fitting index s ss (rw (same_place index) at k.ahead)
 
   begun_index : SFits w32 s.0 → index +ℤ s.0 ≡ to_z w32 (of_z w32 (to_z w32 (of_z w32 index) +ℤ to_z w32 (of_z w32 s.0)))
-  begun_index f = let a = k.low in let b = k.high in let l = begun_low in let h = begun_high in omega (arith, ints)
+  begun_index f = let a = k.low in let b = k.high in let l = fits.low in let h = fits.high in omega (arith, ints)
 
   sound_begin : Sound (index +ℤ s.0) s.1 ss before ds
   sound_begin =
-      let t = within in
       let w = k.whole in
-      record { whole = omega arith; low = begun_low; high = begun_high; ahead = grind (arith, ints); counts = k.counts }
+      record { whole = omega arith; low = fits.low; high = fits.high; ahead = fits.ahead; counts = k.counts }
 
 -- the reader r begins the span s
 module _ (r : BucketReader) (s : ℤ × ℕ) (ss : Spans) (none : r.left ≡ 0) (next : r.spans.now ≡ s ∷ ss) (f : SFits w32 s.0) where
@@ -66,20 +87,16 @@ module _ (r : BucketReader) (s : ℤ × ℕ) (ss : Spans) (none : r.left ≡ 0) 
 
 -- where the delta d is read
 module _ (index : ℤ) (left : ℕ) (ss : Spans) (before d : ℤ) (ds : List ℤ) (some : 0 < left) (k : Sound index left ss before (d ∷ ds)) where
-  count_low : pos 0 ≤ℤ (before +ℤ d)
-  count_low = let c = k.counts in grind (arith, ints)
-
-  count_high : (before +ℤ d) ≤ℤ pos (2 ^ 63 - 1)
-  count_high = let c = k.counts in grind (arith, ints)
+  counted : Counted before d ds
+  counted = counted_next before d ds k.counts
 
   sound_next : Sound (index +ℤ pos 1) (left - 1) ss (before +ℤ d) ds
   sound_next =
       let w = k.whole in
       let l = k.low in
       let t = k.high in
-      let c = k.counts in
       let e : index +ℤ pos left ≡ index +ℤ pos 1 +ℤ pos (left - 1) = omega (arith, ints) in
-      record { whole = omega arith; low = omega (arith, ints); high = omega (arith, ints); ahead = rw e at k.ahead; counts = grind (arith, ints) }
+      record { whole = omega arith; low = omega (arith, ints); high = omega (arith, ints); ahead = rw e at k.ahead; counts = counted.counts }
 
   yielded_index : index ≡ to_z w32 (of_z w32 index)
   yielded_index = let l = k.low in let t = k.high in omega (arith, ints)
@@ -88,11 +105,11 @@ module _ (index : ℤ) (left : ℕ) (ss : Spans) (before d : ℤ) (ds : List ℤ
   next_index = let l = k.low in let t = k.high in omega (arith, ints)
 
   next_count : SFits w64 before → SFits w64 d → before +ℤ d ≡ to_z w64 (of_z w64 (to_z w64 (of_z w64 before) +ℤ to_z w64 (of_z w64 d)))
-  next_count f g = let a = count_low in let b = count_high in omega (arith, ints)
+  next_count f g = let a = counted.low in let b = counted.high in omega (arith, ints)
 
   -- the count is shown without a sign
   yielded_count : before +ℤ d ≡ to_z w64 (of_z w64 (before +ℤ d))
-  yielded_count = let a = count_low in let b = count_high in omega (arith, ints)
+  yielded_count = let a = counted.low in let b = counted.high in omega (arith, ints)
 
 -- the reader r reads the delta d
 module _ (r : BucketReader) (d : ℤ) (ds : List ℤ) (some : 0 < r.left) (next : r.deltas.now ≡ d ∷ ds) (f : SFits w64 d) (g : SFits w64 r.count) where

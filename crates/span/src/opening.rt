@@ -1,7 +1,7 @@
 // Opening a reader: spans and deltas of any origin are checked first.
 ghost use Rattle.std.specs.Prelude.{◌≡◌, ◌^◌, ◌<◌, pos, negsuc, ◌≤ℤ◌};
 ghost use Rattle.index.specs.Index.{in_index_range};
-ghost use Rattle.span.specs.Reading.{lengths, lengths_refusal, lone, lone_or_refusal, counts_refusal};
+ghost use Rattle.span.specs.Reading.{lengths, lengths_refusal, lone, lone_or_refusal, countable, counts_refusal};
 ghost use Rattle.span.specs.Readers.{fault_of, Checked, Opened};
 
 use crate::faults::SpanFault;
@@ -99,12 +99,19 @@ fn in_range(index: i64) -> bool
 fn check_counts(deltas: &[i64]) -> Result<(), SpanFault>
     ensures { fault_of result ≡ counts_refusal 0 (pos 0) deltas.now }
 {
-    let mut count = 0i64;
+    let mut count = 0i128;
     for (number, delta) in deltas.iter().enumerate() {
-        count = count
-            .checked_add(*delta)
-            .filter(|count| *count >= 0)
-            .ok_or(SpanFault::CountRange(number as i64))?;
+        count += i128::from(*delta);
+        if !is_count(count) {
+            return Err(SpanFault::CountRange(number as i64));
+        }
     }
     Ok(())
+}
+
+// Whether the number is a count that deltas may lead to: 0 to 2^63 - 1.
+fn is_count(number: i128) -> bool
+    ensures { result ≡ countable number }
+{
+    (0..=i128::from(i64::MAX)).contains(&number)
 }

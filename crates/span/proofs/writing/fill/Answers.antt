@@ -2,7 +2,7 @@ use Rattle.std.proofs.Common.{◌≡◌, length, pos, unwrap_or, sym, refl, ap, 
 use Rattle.std.proofs.lemmas.Int.{ints}
 use Rattle.span.proofs.Climbing.{after}
 use Rattle.span.proofs.Steps.{last_more}
-use Rattle.span.proofs.Seen.{seen_none, seen_place, starts, joins, after_is, spans_new, spans_same, seen_more}
+use Rattle.span.proofs.Seen.{seen_none, seen_place, starts, joins, next_is, spans_new, spans_same, seen_more}
 use Rattle.span.proofs.Laying.{ready, seen_small, last_short, laying_deltas, laying_new, laying_last, room_for_delta, room_in_last, room_for_span}
 use Rattle.span.proofs.writing.fill.Goals as goal
 use Rattle.span.proofs.writing.fill.Goals.{then-eq, else-eq}
@@ -39,7 +39,7 @@ overflow_add-spans g c =
     let met = g.met.S.BucketStore in
     let s = c.loop-index.invariant.0 in
     let e = c.in-Some.ensures.steps in
-    let p = seen_place s e (met.means c.args.store.now) (met.in_range c.args.store.now) in
+    let p = seen_place s e (met.means c.args.store.now).rises (met.in_range c.args.store.now) in
     let f = p.few in
     let h = last_short s e (joins p _ (sym c.eq.ensures ∙ c.if-eq.true)) _ _ (pos 0, 0) c.loop-index.invariant.1.of_spans in
     search rules
@@ -54,7 +54,7 @@ pub overflow_sub-spans-else-eq : goal.overflow_sub-spans-else-eq
 overflow_sub-spans-else-eq g c =
     let met = g.met.S.BucketStore in
     let s = c.loop-index.invariant.0 in
-    let p = seen_place s c.in-Some.ensures.steps (met.means c.args.store.now) (met.in_range c.args.store.now) in
+    let p = seen_place s c.in-Some.ensures.steps (met.means c.args.store.now).rises (met.in_range c.args.store.now) in
     let n : c.unwrap_or.result ≡ after c.loop-index.yielded = c.unwrap_or.ensures ∙ ap (λ o. unwrap_or o (pos 0)) s.of_end in
     let l = p.low in
     let h = p.high in
@@ -71,7 +71,7 @@ bounds-spans-written-else-eq g c =
 pub overflow_add-end : goal.overflow_add-end
 overflow_add-end g c =
     let met = g.met.S.BucketStore in
-    let p = seen_place c.loop-index.invariant.0 c.in-Some.ensures.steps (met.means c.args.store.now) (met.in_range c.args.store.now) in
+    let p = seen_place c.loop-index.invariant.0 c.in-Some.ensures.steps (met.means c.args.store.now).rises (met.in_range c.args.store.now) in
     let l = p.index_low in
     let h = p.index_high in
     omega (arith, ints)
@@ -83,14 +83,14 @@ loop-index-preserved g c =
     let y = c.loop-index.invariant.1 in
     let e = c.in-Some.ensures.steps in
     let r = ready (g.S.BucketStore.pairs c.args.store.now) (length c.args.spans.now) (length c.args.deltas.now) c.requires in
-    let p = seen_place s e (met.means c.args.store.now) (met.in_range c.args.store.now) in
+    let p = seen_place s e (met.means c.args.store.now).rises (met.in_range c.args.store.now) in
     let k = seen_small s e r.small in
     let n = last_more 0 c.loop-index.yielded (c.in-Some.index, c.in-Some.count) in
     let b = y.before in
     elim c.if-eq.branch [
       | then-eq w ↦
           let j = joins p _ (sym c.eq.ensures ∙ w.if-eq.true) in (
-            seen_more s e _ _ (after_is p) k (ap (λ n. n.spans) w.written-is ∙ sym (spans_same s e j)) (ap (λ n. n.deltas) w.written-is),
+            seen_more s e _ _ (next_is p) k (ap (λ n. n.spans) w.written-is ∙ sym (spans_same s e j)) (ap (λ n. n.deltas) w.written-is),
             record { of_spans = w.spans-is ∙ laying_last s e j c.args.spans.now c.loop-index.spans (pos 0, 0) y.of_spans; of_deltas = laying_deltas s e c.args.deltas.now c.loop-index.deltas _ _ b (omega (arith, ints)) r.of_deltas y.of_deltas; before = omega (arith, ints) },
           )
       | else-eq w ↦
@@ -100,7 +100,7 @@ loop-index-preserved g c =
           let h = p.high in
           let il = p.index_low in
           let ih = p.index_high in (
-            seen_more s e _ _ (after_is p) k (ap (λ n. n.spans) w.written-is ∙ sym (spans_new s e a)) (ap (λ n. n.deltas) w.written-is),
+            seen_more s e _ _ (next_is p) k (ap (λ n. n.spans) w.written-is ∙ sym (spans_new s e a)) (ap (λ n. n.deltas) w.written-is),
             record { of_spans = laying_new s e a c.args.spans.now c.loop-index.spans w.spans-is (omega (arith, ints)) r.of_spans y.of_spans; of_deltas = laying_deltas s e c.args.deltas.now c.loop-index.deltas _ _ b (omega (arith, ints)) r.of_deltas y.of_deltas; before = omega (arith, ints) },
           )
     ]

@@ -3,7 +3,7 @@ use Rattle.std.proofs.lemmas.Int.{ints}
 use Rattle.std.proofs.lemmas.Bool.{not-true, not-false}
 use Rattle.span.specs.Spans.{filled, runs}
 use Rattle.span.proofs.Steps.{length_differences}
-use Rattle.span.proofs.Seen.{seen_none, seen_place, seen_few, after_is, starts, joins, spans_new, spans_same, seen_more, seen_all, seen_allowed}
+use Rattle.span.proofs.Seen.{seen_none, seen_place, seen_few, next_is, starts, joins, spans_new, spans_same, seen_more, seen_all, seen_allowed}
 use Rattle.span.proofs.writing.measure.Goals as goal
 use Rattle.span.proofs.writing.measure.Goals.{then-ne, else-ne}
 
@@ -26,7 +26,7 @@ overflow_add-lengths-then-ne g c =
 pub overflow_add-end : goal.overflow_add-end
 overflow_add-end g c =
     let met = g.met.S.BucketStore in
-    let p = seen_place c.loop-index.invariant c.in-Some.ensures.steps (met.means c.args.store.now) (met.in_range c.args.store.now) in
+    let p = seen_place c.loop-index.invariant c.in-Some.ensures.steps (met.means c.args.store.now).rises (met.in_range c.args.store.now) in
     let l = p.index_low in
     let h = p.index_high in
     omega (arith, ints)
@@ -36,14 +36,14 @@ loop-index-preserved g c =
     let met = g.met.S.BucketStore in
     let s = c.loop-index.invariant in
     let e = c.in-Some.ensures.steps in
-    let p = seen_place s e (met.means c.args.store.now) (met.in_range c.args.store.now) in
+    let p = seen_place s e (met.means c.args.store.now).rises (met.in_range c.args.store.now) in
     elim c.if-ne.branch [
       | then-ne w ↦
-          seen_more s e _ _ (after_is p) (omega arith)
+          seen_more s e _ _ (next_is p) (omega arith)
           (ap (λ n. n.spans) w.lengths-is ∙ sym (spans_new s e (starts p _ (not-true _ (sym c.ne.ensures ∙ w.if-ne.true)))))
           (let d = ap (λ n. n.deltas) w.lengths-is in omega arith)
       | else-ne w ↦
-          seen_more s e _ _ (after_is p) (omega arith)
+          seen_more s e _ _ (next_is p) (omega arith)
           (ap (λ n. n.spans) w.lengths-is ∙ sym (spans_same s e (joins p _ (not-false _ (sym c.ne.ensures ∙ w.if-ne.false)))))
           (let d = ap (λ n. n.deltas) w.lengths-is in omega arith)
     ]
