@@ -32,11 +32,15 @@ last_highest : (p : ℤ × ℕ) (ps : Pairs) (x : ℤ × ℕ) → T (rising (p �
 last_highest p [] x r e = let same : p ≡ x = cc in subst (λ y. Highest y.0 (p ∷ [])) same (lone_highest p)
 last_highest p (q ∷ qs) x r e = later_highest x.0 p q qs r (last_highest q qs x (rising_tail p (q ∷ qs) r) e)
 
-pub last_pair : (ps : Pairs) (o : Option (ℤ × ℕ)) → T (rising ps) → o ≡ pair_at ps (length ps - 1) → MatchOption o (ps ≡ []) (λ x. Highest x.0 ps)
-last_pair [] None r e = refl
-last_pair [] (Some x) r e = absurd (cc)
-last_pair (p ∷ ps) None r e =
+-- only of no pairs there is no last one
+pub last_missing : (ps : Pairs) → None ≡ pair_at ps (length ps - 1) → ps ≡ []
+last_missing [] e = refl
+last_missing (p ∷ ps) e =
     let there = pair_at_in (p ∷ ps) (length ps) p (omega arith) in
     let place : pair_at (p ∷ ps) (length (p ∷ ps) - 1) ≡ pair_at (p ∷ ps) (length ps) = ap (pair_at (p ∷ ps)) (omega arith) in
     absurd (cc)
+
+pub last_pair : (ps : Pairs) (o : Option (ℤ × ℕ)) → T (rising ps) → o ≡ pair_at ps (length ps - 1) → MatchOption o (ps ≡ []) (λ x. Highest x.0 ps)
+last_pair ps None r e = last_missing ps e
+last_pair [] (Some x) r e = absurd (cc)
 last_pair (p ∷ ps) (Some x) r e = last_highest p ps x r (e ∙ ap (pair_at (p ∷ ps)) (omega arith))

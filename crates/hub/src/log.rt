@@ -107,16 +107,25 @@ fn parse_spans<'a>(heap: Global, words: &[&'a str]) -> Result<Entry<'a>, LineFau
     let Some(slash) = rest.iter().position(|word| *word == "/") else {
         return Err(LineFault::NoSlash(name));
     };
-    let spans = rest[..slash]
-        .iter()
-        .map(|word| parse_span(word))
-        .try_collect(heap)?;
-    let deltas = rest[slash + 1..]
-        .iter()
-        .map(|word| parse_delta(word))
-        .try_collect(heap)?;
+    let spans = parse_list(heap, &rest[..slash], parse_span)?;
+    let deltas = parse_list(heap, &rest[slash + 1..], parse_delta)?;
     let written = Written { spans, deltas };
     Ok(Entry::Spans { name, written })
+}
+
+// An item for each word. By `push`, since `try_collect` asks a second time for memory that was refused.
+fn parse_list<'a, T: Drop, F: Fn(&'a str) -> Result<T, LineFault<'a>>>(
+    heap: Global,
+    words: &[&'a str],
+    parse: F,
+) -> Result<Vec<T>, LineFault<'a>>
+    requires { F.IsAlwaysCallable parse }
+{
+    let mut items = Vec::new(heap);
+    for word in words {
+        items.push(parse(word)?)?;
+    }
+    Ok(items)
 }
 
 // The offset and the length of a span.

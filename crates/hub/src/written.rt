@@ -49,9 +49,14 @@ impl<F> From<AllocError> for FormError<F> {
 pub fn pairs_of<S: BucketStore>(heap: Global, store: &S) -> Result<Vec<(i32, u64)>, AllocError>
     ensures { IfOk result (λ v. v.items ≡ S.BucketStore.pairs store.now) }
 {
-    (0..store.size())
-        .filter_map(|position| store.pair(position))
-        .collect(heap)
+    let mut pairs = Vec::new(heap);
+    // By `push`, since `collect` asks a second time for memory that was refused.
+    for position in 0..store.size() {
+        if let Some(pair) = store.pair(position) {
+            pairs.push(pair)?;
+        }
+    }
+    Ok(pairs)
 }
 
 // The spans and deltas of a store, or why it has none.

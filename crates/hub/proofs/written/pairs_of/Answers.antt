@@ -1,21 +1,33 @@
-use Rattle.std.proofs.Common.{◌≡◌, ℕ, suc, ◌+◌, [], ◌∷◌, length, Some, IfOk, vec_items, sym, refl, ap, ◌∙◌, subst, arith, rules, tests}
-use Rattle.std.specs.List.{filter_map, cons_option, range_with_len}
-use Rattle.std.proofs.lemmas.Iterator.{items_from_collect, YieldsList-from_range}
-use Rattle.std.proofs.lemmas.Iterator.Consumers.{YieldsList-from_filter_map}
+use Rattle.std.proofs.Common.{◌≡◌, ℕ, ◌+◌, ◌<◌, [], ◌∷◌, ◌++◌, length, get_or, take, ℤ, pos, is_some, Some, None, vec_items, Option, unwrap_or, sym, ap, ◌∙◌, arith}
+use borrow.Author.Tests.{clash}
+use Rattle.std.proofs.lemmas.List.{take_all, take_more}
 use Rattle.store.specs.Pairs.{Pairs, pair_at}
+use Rattle.store.proofs.Parts.{pair_at_in}
 use Rattle.hub.proofs.written.pairs_of.Goals as goal
+use Rattle.hub.proofs.written.pairs_of.Goals.{in-Some+in_ok-push, in_default}
 
--- the pairs at the positions from a on, where those are the pairs ps
-from_position : (all ps : Pairs) (a : ℕ) → ((k : ℕ) → pair_at ps k ≡ pair_at all (a + k)) → filter_map (pair_at all) (range_with_len a (length ps)) ≡ ps
-from_position all [] a h = refl
-from_position all (p ∷ ps) a h =
-    let first : Some p ≡ pair_at all a = h 0 ∙ ap (pair_at all) (omega arith) in
-    ap (λ o. cons_option o (filter_map (pair_at all) (range_with_len (a + 1) (length ps)))) (sym first)
-    ∙ ap (λ qs. p ∷ qs) (from_position all ps (a + 1) (λ k. h (suc k) ∙ ap (pair_at all) (omega arith)))
+-- the pair at position k comes after the k pairs before it
+one_further : (ps qs : Pairs) (k : ℕ) (p : ℤ × ℕ) → k < length ps → qs ≡ take k ps → Some p ≡ pair_at ps k → qs ++ p ∷ [] ≡ take (k + 1) ps
+one_further ps qs k p h e a =
+    let same : p ≡ get_or ps k (pos 0, 0) = ap (λ (o : Option (ℤ × ℕ)). unwrap_or o (pos 0, 0)) (a ∙ pair_at_in ps k (pos 0, 0) h) in
+    ap (λ xs. xs ++ p ∷ []) e ∙ ap (λ x. take k ps ++ x ∷ []) same ∙ sym (take_more ps k (pos 0, 0) h)
+
+none_missing : (ps : Pairs) (k : ℕ) → k < length ps → None ≡ pair_at ps k → ⊥
+none_missing ps k h a = clash (ap is_some (a ∙ pair_at_in ps k (pos 0, 0) h))
+
+pub loop-position-preserved : goal.loop-position-preserved
+loop-position-preserved g c =
+    let ps = g.S.BucketStore.pairs c.args.store.now in
+    let k = c.loop-position.position in
+    let h : k < length ps = omega (arith, c.loop-position-test.true, c.size-position-end.ensures) in
+    elim c.match-pair.branch [
+      | in-Some+in_ok-push w ↦
+          ap vec_items w.pairs-is ∙ w.in_ok-push.ensures.items
+          ∙ one_further ps (vec_items c.loop-position.pairs) k w.in-Some.pair h c.loop-position.invariant w.in-Some.ensures
+      | in_default w ↦ absurd (none_missing ps k h w.in_default.ensures)
+    ]
 
 pub returns : goal.returns
 returns g c =
-    let ps = g.S.BucketStore.pairs c.args.store.now in
-    subst (λ xs. IfOk c.collect.result (λ v. vec_items v ≡ xs)) (from_position ps ps 0 (λ k. ap (pair_at ps) (omega arith)))
-    (items_from_collect c.collect.result c.collect.ensures.ran
-    (YieldsList-from_filter_map _ (pair_at ps) (YieldsList-from_range 0 c.size.result (length ps) c.filter_map.ensures.source (omega (arith, c.size.ensures))) c.filter_map.ensures.closure (λ x r q k. search (rules, tests))))
+    c.loop-position.invariant
+    ∙ take_all c.loop-position.position (g.S.BucketStore.pairs c.args.store.now) (omega (arith, c.loop-position-test.false, c.size-position-end.ensures))
